@@ -3,7 +3,6 @@ pub mod Best
 pub mod Steps
 pub mod Turns
 pub mod Lowering
-pub mod Picking
 pub mod WayBack
 pub mod Nearing
 pub mod Putting

@@ -33,7 +33,8 @@ use Rattle.unwrap_conflicts.specs.inner.Values.{is_done}
 use Rattle.unwrap_conflicts.proofs.ConflictLaws.{conflict-wrong}
 use Rattle.unwrap_conflicts.proofs.Clashing.{done-is}
 use Rattle.unwrap_paths.specs.inner.Levels.{Walk, starts, goes, Levelled, Best, Distance, ReadOff}
-use Rattle.unwrap_paths.specs.inner.Code.{mark_opened_first, is_opened, Roots, HasLevels, HasLevel, GoesBack}
+use Rattle.unwrap_paths.specs.declared.levels.Mark.{Mark}
+use Rattle.unwrap_paths.specs.inner.Code.{opens, opens_first, is_opened, Roots, HasLevels, HasLevel, GoesBack}
 use Rattle.unwrap_copies.specs.inner.Openers.{OneOpens, OpenersAre}
 use Rattle.unwrap_paths.specs.inner.Links.{mark_of, LinksAre, entries_at, LeadsTo}
 use Rattle.unwrap_paths.proofs.Best.{best-walk}
@@ -41,11 +42,11 @@ use Rattle.unwrap_paths.proofs.Chained.{Known, Leading, chain-walk, start-last, 
 
 -- ---- marks
 -- the mark of an entry that is done, and of one that is not
-mark-opened : (c : Cell) (b : Bool) → not (eqb (mark_of c b) 0) ≡ is_done c.status
+mark-opened : (c : Cell) (b : Bool) → opens (mark_of c b) ≡ is_done c.status
 mark-opened c b =
     bool_cases (is_done c.status) (λ d. bool_cases b (λ z. rw (d, z) refl) (λ z. rw (d, z) refl)) (λ d. rw d refl)
 
-mark-first : (c : Cell) (b : Bool) → is_done c.status ≡ true → not b ≡ eqb (mark_of c b) mark_opened_first
+mark-first : (c : Cell) (b : Bool) → is_done c.status ≡ true → not b ≡ opens_first (mark_of c b)
 mark-first c b d = bool_cases b (λ z. rw (d, z) refl) (λ z. rw (d, z) refl)
 
 -- ---- a Key ID is that of a root
@@ -67,7 +68,7 @@ root-found (a ∷ l) k e =
     bool_cases (eqb a.id k) (λ g. (a, Memᴰ.head refl, eqb-true a.id k g))
     (λ g. let f = root-found l k (rw g at e) in (f.0, Memᴰ.tail f.1, f.2))
 
-module _ (n : ℕ) (entries : List Entry) (cells : List Cell) (ids kwks marks : List ℕ)
+module _ (n : ℕ) (entries : List Entry) (cells : List Cell) (ids kwks : List ℕ) (marks : List Mark)
     (linked : LinksAre n n entries cells ids kwks marks) where
   module _ (frame : List ℕ) (roots : List Root) (l : List WrapKey) (size : ℕ) (lists : Lists frame entries n l)
       (s : Searched roots l size cells) (nonzero : Nonzero l) (rootsFit : RootsFit roots l) (none : EntriesConflict roots l size → ⊥) where
@@ -76,7 +77,7 @@ module _ (n : ℕ) (entries : List Entry) (cells : List Cell) (ids kwks marks : 
 
     opened-is : (i : ℕ) → i < n → is_opened marks i ≡ is_done (cell_at cells i).status
     opened-is i h =
-        ap (λ (m : ℕ). not (eqb m 0)) (linked.mark-is frame l lists i h)
+        ap opens (linked.mark-is frame l lists i h)
         ∙ mark-opened (cell_at cells i) (carried_by l (get_or entries i no_entry).kwk)
 
     in-l : (i : ℕ) → i < n → i < length l
@@ -166,7 +167,7 @@ module _ (n : ℕ) (entries : List Entry) (cells : List Cell) (ids kwks marks : 
         (subst (λ (j : ℕ). AtRoot roots l size j g.value ⊎ Reached roots l size j g.value) q
         (ends_by roots l size g.passed (key_at l i).kwk_id g.value g.chain)) e ∙ sym (ap not e)) in
         ap is_root (linked.kwk-is i h) ∙ is ∙ mark-first (cell_at cells i) (carried_by l k) d
-        ∙ ap (λ (m : ℕ). eqb m mark_opened_first) (sym (linked.mark-is frame l lists i h))
+        ∙ ap opens_first (sym (linked.mark-is frame l lists i h))
 
     ends-one : (p q : List WrapKey) (k : ℕ) (v w : List ℕ) → Chain roots l size p k v → Chain roots l size q k w →
         v ≡ w

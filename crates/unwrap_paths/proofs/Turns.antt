@@ -2,22 +2,21 @@
 use native.Mathlib.Omega.{arith}
 use Prim.Native.Nat.{ℕ, zero, suc, ◌+◌, ◌≤◌, ◌<◌}
 use mathlib.Core.Path.{◌≡◌, refl, ap, sym, ◌∙◌, subst}
-use mathlib.Core.Bool.{Bool, true, false, not, cond, false≢true}
+use mathlib.Core.Bool.{Bool, true, false, cond, false≢true}
 use mathlib.Core.Logic.{◌⊎◌, inl, inr, ⊎_elim}
 use mathlib.Core.List.{List}
-use borrow.Author.Tests.{eq-eqb, ne_eqb, eqb-true}
-use lib.Dec.{eqb}
 use lib.ListN.{length, set}
 use lib.Seq.{get_or-set_same, get_or-set_other}
 use Rattle.lists.proofs.Cases.{bool_cases, lt-cases}
 use Rattle.octets.specs.Numbers.{oct}
 use Rattle.state_keys.specs.Limits.{limits}
+use Rattle.unwrap_paths.specs.declared.levels.Mark.{Mark}
 use Rattle.unwrap_paths.specs.inner.Levels.{Next, Levelling, Levelled}
 use Rattle.unwrap_paths.specs.inner.Levels as levels
-use Rattle.unwrap_paths.specs.inner.Code.{is_opened, is_tried, mark_opened_first, first_level, LeastAt, next_level, Roots, HasLevels}
+use Rattle.unwrap_paths.specs.inner.Code.{mark_at, opens, opens_first, is_opened, is_tried, first_level, LeastAt, next_level, Roots, HasLevels}
 use Rattle.unwrap_search.proofs.Statuses.{eq-cases}
 use Rattle.unwrap_paths.proofs.Levelling.{turn, begun, levelled}
-use Rattle.unwrap_paths.proofs.Steps.{next-set, next-other, next-unopened, next-stays, first-root, first-other}
+use Rattle.unwrap_paths.proofs.Steps.{next-set, next-other, next-unopened, next-stays, first-root, first-other, first-opened}
 
 -- ---- how many were not tried: the measure, and a bound on the levels
 unfoldable pub untried : ℕ → (ℕ → Bool) → ℕ
@@ -53,65 +52,55 @@ untried-all (suc n) S f =
     rw (f n (let z : n < suc n = omega arith in z)) (ap suc e)
 
 -- ---- what is known at each turn
-module _ (n : ℕ) (ids kwks marks : List ℕ) where
-  abbrev pub Known : List ℕ → List ℕ → Type 0
+module _ (n : ℕ) (ids kwks : List ℕ) (marks : List Mark) where
+  abbrev pub Known : List ℕ → List Bool → Type 0
   Known lv tried =
       (is_root : ℕ → Bool) → Roots n kwks marks is_root →
       Levelling n (oct ids) (oct kwks) (is_opened marks) is_root (oct lv) (is_tried tried)
 
   -- so that no level is over n
-  pub record Bound (lv tried : List ℕ) : Type 0 where
+  pub record Bound (lv : List ℕ) (tried : List Bool) : Type 0 where
     pub most : (i : ℕ) → i < n → oct lv i + untried n (is_tried tried) ≤ n + 1
     pub tried-some : (i : ℕ) → i < n → is_tried tried i ≡ true → 0 < oct lv i
     pub tried-most : (i : ℕ) → i < n → is_tried tried i ≡ true → oct lv i + untried n (is_tried tried) ≤ n
 
-  module _ (lv tried : List ℕ) (first : (i : ℕ) → i < n → oct lv i ≡ first_level (oct marks i))
-      (none : (i : ℕ) → i < n → oct tried i ≡ 0) where
-    none_tried : (i : ℕ) → i < n → is_tried tried i ≡ false
-    none_tried i h = ap not (eq-eqb (oct tried i) 0 (none i h))
-
+  module _ (lv : List ℕ) (tried : List Bool) (first : (i : ℕ) → i < n → oct lv i ≡ first_level (mark_at marks i))
+      (none : (i : ℕ) → i < n → is_tried tried i ≡ false) where
     pub known_start : Known lv tried
     known_start is_root roots =
-        begun n (oct ids) (oct kwks) (is_opened marks) is_root (oct lv) (is_tried tried) none_tried
-        (λ i h o r. first i h ∙ sym (first-root (oct marks i) (eqb-true (oct marks i) mark_opened_first (sym (roots i h o) ∙ r))))
+        begun n (oct ids) (oct kwks) (is_opened marks) is_root (oct lv) (is_tried tried) none
+        (λ i h o r. first i h ∙ sym (first-root (mark_at marks i) (sym (roots i h o) ∙ r)))
         (λ i h g.
-        eq-cases (oct marks i) mark_opened_first
+        bool_cases (opens_first (mark_at marks i))
         (λ e.
-        let o : is_opened marks i ≡ true = ap not (ne_eqb (oct marks i) 0 (λ z. let y : 0 ≡ mark_opened_first = sym z ∙ e in omega arith)) in
-        (first i h ∙ sym (first-root (oct marks i) e), o, roots i h o ∙ eq-eqb (oct marks i) mark_opened_first e))
-        (λ e. let z : oct lv i ≡ 0 = first i h ∙ sym (first-other (oct marks i) e) in absurd (omega arith)))
+        let o = first-opened (mark_at marks i) e in (first i h ∙ sym (first-root (mark_at marks i) e), o, roots i h o ∙ e))
+        (λ e. let z : oct lv i ≡ 0 = first i h ∙ sym (first-other (mark_at marks i) e) in absurd (omega arith)))
 
     pub bound-start : Bound lv tried
     bound-start =
         record {
           most = λ i h.
-              let u = untried-all n (is_tried tried) none_tried in
-              eq-cases (oct marks i) mark_opened_first (λ e. let z = first i h ∙ sym (first-root (oct marks i) e) in omega arith)
-              (λ e. let z = first i h ∙ sym (first-other (oct marks i) e) in omega arith);
-          tried-some = λ i h t. absurd (false≢true (sym (none_tried i h) ∙ t));
-          tried-most = λ i h t. absurd (false≢true (sym (none_tried i h) ∙ t));
+              let u = untried-all n (is_tried tried) none in
+              bool_cases (opens_first (mark_at marks i)) (λ e. let z = first i h ∙ sym (first-root (mark_at marks i) e) in omega arith)
+              (λ e. let z = first i h ∙ sym (first-other (mark_at marks i) e) in omega arith);
+          tried-some = λ i h t. absurd (false≢true (sym (none i h) ∙ t));
+          tried-most = λ i h t. absurd (false≢true (sym (none i h) ∙ t));
         }
 
   -- ---- a turn
-  module _ (lv tried : List ℕ) (j : ℕ) (found : LeastAt n lv tried j) (fits : n ≤ length tried) (more : List ℕ)
-      (spread : (i : ℕ) → i < n → oct more i ≡ next_level (oct lv i) (oct marks i) (oct kwks i) (oct ids j) (oct lv j)) where
-    here : is_tried (set tried j 1) j ≡ true
-    here = let h = found.inside in ap (λ (x : ℕ). not (eqb x 0)) (get_or-set_same tried j 1 0 (omega arith))
+  module _ (lv : List ℕ) (tried : List Bool) (j : ℕ) (found : LeastAt n lv tried j) (fits : n ≤ length tried) (more : List ℕ)
+      (spread : (i : ℕ) → i < n → oct more i ≡ next_level (oct lv i) (mark_at marks i) (oct kwks i) (oct ids j) (oct lv j)) where
+    here : is_tried (set tried j true) j ≡ true
+    here = let h = found.inside in get_or-set_same tried j true false (omega arith)
 
-    other : (i : ℕ) → (i ≡ j → ⊥) → is_tried (set tried j 1) i ≡ is_tried tried i
-    other i f = ap (λ (x : ℕ). not (eqb x 0)) (get_or-set_other tried j i 1 0 f)
+    other : (i : ℕ) → (i ≡ j → ⊥) → is_tried (set tried j true) i ≡ is_tried tried i
+    other i f = get_or-set_other tried j i true false f
 
-    fell : suc (untried n (is_tried (set tried j 1))) ≡ untried n (is_tried tried)
-    fell = untried-fell n (is_tried tried) (is_tried (set tried j 1)) j found.inside found.untried here other
+    fell : suc (untried n (is_tried (set tried j true))) ≡ untried n (is_tried tried)
+    fell = untried-fell n (is_tried tried) (is_tried (set tried j true)) j found.inside found.untried here other
 
-    pub turn-less : untried n (is_tried (set tried j 1)) < untried n (is_tried tried)
+    pub turn-less : untried n (is_tried (set tried j true)) < untried n (is_tried tried)
     turn-less = let e = fell in omega arith
-
-    opened-mark : (i : ℕ) → (oct marks i ≡ 0 → ⊥) → is_opened marks i ≡ true
-    opened-mark i f = ap not (ne_eqb (oct marks i) 0 f)
-
-    mark-opened : (i : ℕ) → is_opened marks i ≡ true → oct marks i ≡ 0 → ⊥
-    mark-opened i o e = false≢true (sym (ap not (eq-eqb (oct marks i) 0 e)) ∙ o)
 
     stays : (i : ℕ) (is_root : ℕ → Bool) → oct more i ≡ oct lv i →
         (oct lv i ≡ 0 → is_opened marks i ≡ true → oct kwks i ≡ oct ids j → ⊥) →
@@ -122,21 +111,21 @@ module _ (n : ℕ) (ids kwks marks : List ℕ) where
     next is_root i h =
         let s = spread i h in
         let l = oct lv i in
-        let m = oct marks i in
+        let m = mark_at marks i in
         let k = oct kwks i in
         let d = oct ids j in
         let o = oct lv j in
         eq-cases l 0
         (λ a.
-        eq-cases m 0
-        (λ b. stays i is_root (s ∙ sym (next-unopened l m k d o a b) ∙ sym a) (λ z p q. mark-opened i p b))
+        bool_cases (opens m)
         (λ b.
         eq-cases k d
-        (λ e. levels.set a (opened-mark i b) e (s ∙ sym (next-set l m k d o a b e) ∙ (let z : o + 1 ≡ suc o = omega arith in z)))
-        (λ e. stays i is_root (s ∙ sym (next-other l m k d o a b e)) (λ z p q. e q))))
+        (λ e. levels.set a b e (s ∙ sym (next-set l m k d o a b e) ∙ (let z : o + 1 ≡ suc o = omega arith in z)))
+        (λ e. stays i is_root (s ∙ sym (next-other l m k d o a b e)) (λ z p q. e q)))
+        (λ b. stays i is_root (s ∙ sym (next-unopened l m k d o a b) ∙ sym a) (λ z p q. false≢true (sym b ∙ p))))
         (λ a. stays i is_root (s ∙ sym (next-stays l m k d o a)) (λ z p q. a z))
 
-    pub turn-known : Known lv tried → Known more (set tried j 1)
+    pub turn-known : Known lv tried → Known more (set tried j true)
     turn-known known is_root roots =
         turn n (oct ids) (oct kwks) (is_opened marks) is_root (oct lv) (is_tried tried) (known is_root roots) j
         (record {
@@ -144,7 +133,7 @@ module _ (n : ℕ) (ids kwks marks : List ℕ) where
           untried = found.untried;
           some = found.some;
           least = λ i h u g. let f = found.least i h u g in by_order (oct lv j) (oct lv i) f;
-        }) (oct more) (is_tried (set tried j 1)) (next is_root) here other
+        }) (oct more) (is_tried (set tried j true)) (next is_root) here other
       where
         by_order : (a b : ℕ) → (b < a → ⊥) → a ≤ b
         by_order a b f = omega arith
@@ -157,12 +146,12 @@ module _ (n : ℕ) (ids kwks marks : List ℕ) where
         by (levels.set z o q r) = absurd (omega arith)
         by (levels.stays f r) = r
 
-    was : (i : ℕ) → is_tried (set tried j 1) i ≡ true → (i ≡ j) ⊎ (is_tried tried i ≡ true)
+    was : (i : ℕ) → is_tried (set tried j true) i ≡ true → (i ≡ j) ⊎ (is_tried tried i ≡ true)
     was i t = eq-cases i j inl (λ f. inr (sym (other i f) ∙ t))
 
     module _ (bound : Bound lv tried) where
       abbrev left : ℕ
-      left = untried n (is_tried (set tried j 1))
+      left = untried n (is_tried (set tried j true))
 
       turn-most : (i : ℕ) → i < n → oct more i + left ≤ n + 1
       turn-most i h = by (next (λ x. false) i h)
@@ -171,7 +160,7 @@ module _ (n : ℕ) (ids kwks marks : List ℕ) where
           by (levels.set z o q r) = let e = fell in let b = bound.most j found.inside in omega arith
           by (levels.stays f r) = let e = fell in let a = bound.most i h in omega arith
 
-      turn-some : (i : ℕ) → i < n → is_tried (set tried j 1) i ≡ true → 0 < oct more i
+      turn-some : (i : ℕ) → i < n → is_tried (set tried j true) i ≡ true → 0 < oct more i
       turn-some i h t =
           ⊎_elim
           (λ e.
@@ -179,7 +168,7 @@ module _ (n : ℕ) (ids kwks marks : List ℕ) where
           let k = kept j found.inside s in subst (λ (m : ℕ). 0 < oct more m) (sym e) (let z : 0 < oct more j = omega arith in z))
           (λ s. let p = bound.tried-some i h s in let k = kept i h p in omega arith) (was i t)
 
-      turn-tried : (i : ℕ) → i < n → is_tried (set tried j 1) i ≡ true → oct more i + left ≤ n
+      turn-tried : (i : ℕ) → i < n → is_tried (set tried j true) i ≡ true → oct more i + left ≤ n
       turn-tried i h t =
           ⊎_elim
           (λ e.
@@ -193,18 +182,18 @@ module _ (n : ℕ) (ids kwks marks : List ℕ) where
           let f = fell in omega arith)
           (was i t)
 
-      pub turn-bound : Bound more (set tried j 1)
+      pub turn-bound : Bound more (set tried j true)
       turn-bound = record { most = turn-most; tried-some = turn-some; tried-most = turn-tried }
 
   -- ---- the end
-  known-end : (lv tried : List ℕ) → Known lv tried →
+  known-end : (lv : List ℕ) (tried : List Bool) → Known lv tried →
       ((i : ℕ) → i < n → is_tried tried i ≡ false → 0 < oct lv i → ⊥) → (is_root : ℕ → Bool) → Roots n kwks marks is_root →
       Levelled n (oct ids) (oct kwks) (is_opened marks) is_root (oct lv)
   known-end lv tried known none is_root roots =
       levelled n (oct ids) (oct kwks) (is_opened marks) is_root (oct lv) (is_tried tried) (known is_root roots)
       (λ i h g. bool_cases (is_tried tried i) (λ e. e) (λ e. absurd (none i h e g)))
 
-  pub has-levels : (lv tried : List ℕ) → Known lv tried → Bound lv tried →
+  pub has-levels : (lv : List ℕ) (tried : List Bool) → Known lv tried → Bound lv tried →
       ((i : ℕ) → i < n → is_tried tried i ≡ false → 0 < oct lv i → ⊥) → HasLevels n ids kwks marks lv
   has-levels lv tried known bound none =
       record {
@@ -214,10 +203,10 @@ module _ (n : ℕ) (ids kwks marks : List ℕ) where
         levelled = known-end lv tried known none;
       }
 
-  pub some-untried : (lv tried : List ℕ) (j : ℕ) → LeastAt n lv tried j → Bound lv tried → length tried ≡ limits.wrap_keys →
+  pub some-untried : (lv : List ℕ) (tried : List Bool) (j : ℕ) → LeastAt n lv tried j → Bound lv tried → length tried ≡ limits.wrap_keys →
       n ≤ limits.wrap_keys → oct lv j ≤ limits.wrap_keys
   some-untried lv tried j found bound e h =
-      let f = untried-fell n (is_tried tried) (is_tried (set tried j 1)) j found.inside found.untried
-      (let g = found.inside in ap (λ (x : ℕ). not (eqb x 0)) (get_or-set_same tried j 1 0 (omega arith)))
-      (λ i g. ap (λ (x : ℕ). not (eqb x 0)) (get_or-set_other tried j i 1 0 g)) in
+      let f = untried-fell n (is_tried tried) (is_tried (set tried j true)) j found.inside found.untried
+      (let g = found.inside in get_or-set_same tried j true false (omega arith))
+      (λ i g. get_or-set_other tried j i true false g) in
       let b = bound.most j found.inside in omega arith

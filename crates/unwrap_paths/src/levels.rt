@@ -3,102 +3,74 @@
 ghost use Rattle.std.specs.Prelude.{◌≡◌, ℕ, ◌≤◌, ◌<◌, length};
 ghost use Rattle.octets.specs.Numbers.{oct};
 ghost use Rattle.state_keys.specs.Limits.{limits};
-ghost use Rattle.unwrap_paths.specs.inner.Code.{first_level, lower_of, FindsLeast, next_level, HasLevels};
+ghost use Rattle.unwrap_paths.specs.inner.Code.{opens, mark_at, first_level, FindsLeast, next_level, HasLevels};
 
 use state_keys::limits::WRAP_KEYS;
 
-// The mark of an entry that no chain ends with, or that did not open.
-pub const NOT_OPENED: u8 = 0;
-
-// The mark of an entry that opened under the key of another one.
-pub const OPENED: u8 = 1;
-
-// The mark of an entry that opened under a key that chains start with.
-pub const OPENED_FIRST: u8 = 2;
-
-// The lowest level that was found, 0 if none was, and where.
-#[derive(Clone, Copy)]
-pub struct Low {
-    pub level: usize,
-    pub at: usize,
+// What the search made of an entry.
+#[derive(Clone, Copy, PartialEq, Eq)]
+pub enum Mark {
+    // it did not open, or no chain ends with it
+    NotOpened,
+    // it opened under the key of another entry
+    Opened,
+    // it opened under a key that chains start with
+    OpenedFirst,
 }
 
-#[derive(Clone, Copy)]
-pub enum Found {
-    At(usize),
-    Nothing,
-}
-
-fn first_level(mark: u8) -> usize
-    ensures { result ≡ first_level mark }
-{
-    if mark == OPENED_FIRST {
-        return 1;
+impl Mark {
+    fn opened(self) -> bool
+        ensures { result ≡ opens self }
+    {
+        self != Mark::NotOpened
     }
-    0
+
+    // The level of such an entry before any key was tried: 0 stands for none.
+    fn first_level(self) -> usize
+        ensures { result ≡ first_level self }
+    {
+        match self {
+            Mark::OpenedFirst => 1,
+            Mark::Opened => 0,
+            Mark::NotOpened => 0,
+        }
+    }
 }
 
 // The levels of the entries under a key that chains start with.
-fn first_levels(marks: &[u8], n: usize) -> [usize; WRAP_KEYS]
+fn first_levels(marks: &[Mark], n: usize) -> [usize; WRAP_KEYS]
     requires n_le_wrap_keys { n ≤ limits.wrap_keys }
     requires n_in_bounds { n ≤ length marks.now }
-    ensures { (i : ℕ) → i < n → oct result i ≡ first_level (oct marks.now i) }
+    ensures { (i : ℕ) → i < n → oct result i ≡ first_level (mark_at marks.now i) }
 {
     let mut out = [0usize; WRAP_KEYS];
-    let mut i: usize = 0;
-    while i < n {
-        out[i] = first_level(marks[i]);
-        i += 1;
+    for i in 0..n {
+        out[i] = marks[i].first_level();
     }
     out
 }
 
-fn lower(low: Low, i: usize, level: usize, tried: u8) -> Low
-    ensures { result ≡ lower_of low i level tried }
+// The entry of the lowest level whose key was not tried on the others yet.
+fn lowest(levels: &[usize; WRAP_KEYS], tried: &[bool; WRAP_KEYS], n: usize) -> Option<usize>
+    requires { n ≤ limits.wrap_keys }
+    ensures { FindsLeast n levels.now tried.now result }
 {
-    if tried == 0 {
-        if 0 < level {
-            if low.level == 0 {
-                return Low { level, at: i };
-            }
-            if level < low.level {
-                return Low { level, at: i };
-            }
+    let mut low: Option<usize> = None;
+    for i in 0..n {
+        if !tried[i] && 0 < levels[i] && low.is_none_or(|at| levels[i] < levels[at]) {
+            low = Some(i);
         }
     }
     low
 }
 
-// The entry of the lowest level whose key was not tried on the others yet.
-fn lowest(levels: [usize; WRAP_KEYS], tried: [u8; WRAP_KEYS], n: usize) -> Found
-    requires { n ≤ limits.wrap_keys }
-    ensures { FindsLeast n levels tried result }
-{
-    let mut low = Low { level: 0, at: 0 };
-    let mut i: usize = 0;
-    while i < n {
-        low = lower(low, i, levels[i], tried[i]);
-        i += 1;
-    }
-    if low.level == 0 {
-        return Found::Nothing;
-    }
-    let at = low.at;
-    Found::At(at)
-}
-
 // The level of an entry after a key of this level and ID was tried on it.
-fn next_level(level: usize, mark: u8, kwk: u32, id: u32, of: usize) -> usize
+fn next_level(level: usize, mark: Mark, kwk: u32, id: u32, of: usize) -> usize
     requires { of ≤ limits.wrap_keys }
     ensures { result ≡ next_level level mark kwk id of }
 {
-    if level == 0 {
-        if mark == NOT_OPENED {
-            return 0;
-        }
-        if kwk == id {
-            return of + 1;
-        }
+    if level == 0 && mark.opened() && kwk == id {
+        return of + 1;
     }
     level
 }
@@ -107,7 +79,7 @@ fn next_level(level: usize, mark: u8, kwk: u32, id: u32, of: usize) -> usize
 fn spread(
     ids: &[u32],
     kwks: &[u32],
-    marks: &[u8],
+    marks: &[Mark],
     levels: [usize; WRAP_KEYS],
     n: usize,
     j: usize,
@@ -115,36 +87,27 @@ fn spread(
     requires n_le_wrap_keys { (n ≤ limits.wrap_keys) × (n ≤ length ids.now) × (n ≤ length kwks.now) × (n ≤ length marks.now) }
     requires j_lt_n { (j < n) × (oct levels j ≤ limits.wrap_keys) }
     ensures { (i : ℕ) → i < n → oct result i ≡
-        next_level (oct levels i) (oct marks.now i) (oct kwks.now i) (oct ids.now j) (oct levels j) }
+        next_level (oct levels i) (mark_at marks.now i) (oct kwks.now i) (oct ids.now j) (oct levels j) }
 {
     let id = ids[j];
     let of = levels[j];
     let mut out = levels;
-    let mut i: usize = 0;
-    while i < n {
+    for i in 0..n {
         out[i] = next_level(out[i], marks[i], kwks[i], id, of);
-        i += 1;
     }
     out
 }
 
 // Computes the level of each entry that a chain reaches, and 0 for the others.
-pub fn levels(ids: &[u32], kwks: &[u32], marks: &[u8], n: usize) -> [usize; WRAP_KEYS]
+pub fn levels(ids: &[u32], kwks: &[u32], marks: &[Mark], n: usize) -> [usize; WRAP_KEYS]
     requires { (n ≤ limits.wrap_keys) × (n ≤ length ids.now) × (n ≤ length kwks.now) × (n ≤ length marks.now) }
     ensures { HasLevels n ids.now kwks.now marks.now result }
 {
     let mut levels = first_levels(marks, n);
-    let mut tried = [0u8; WRAP_KEYS];
-    loop {
-        match lowest(levels, tried, n) {
-            Found::At(j) => {
-                tried[j] = 1;
-                let more = spread(ids, kwks, marks, levels, n, j);
-                levels = more;
-            }
-            Found::Nothing => {
-                return levels;
-            }
-        }
+    let mut tried = [false; WRAP_KEYS];
+    while let Some(j) = lowest(&levels, &tried, n) {
+        tried[j] = true;
+        levels = spread(ids, kwks, marks, levels, n, j);
     }
+    levels
 }

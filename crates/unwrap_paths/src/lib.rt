@@ -28,5 +28,5 @@ pub fn path(links: Links, start: Nearest) -> Trail
     let kwks = links.kwks;
     let levels = links.levels;
     let n = links.count;
-    way_back(&ids, &kwks, levels, n, start.kwk, start.level)
+    way_back(&ids, &kwks, &levels, n, start.kwk, start.level)
 }

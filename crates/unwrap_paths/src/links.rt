@@ -4,7 +4,7 @@ ghost use Rattle.state_keys.specs.Limits.{limits};
 ghost use Rattle.unwrap_paths.specs.inner.Links.{mark_of, Numbered};
 ghost use Rattle.unwrap_paths.specs.inner.Kept.{LinksKept, LinksFit};
 
-use crate::levels::{NOT_OPENED, OPENED, OPENED_FIRST, levels};
+use crate::levels::{Mark, levels};
 use state_keys::limits::WRAP_KEYS;
 use unwrap_conflicts::is_done;
 use unwrap_search::open::{Cell, Entry};
@@ -38,21 +38,18 @@ impl Links {
 pub struct LinkNumbers {
     pub ids: [u32; WRAP_KEYS],
     pub kwks: [u32; WRAP_KEYS],
-    pub marks: [u8; WRAP_KEYS],
+    pub marks: [Mark; WRAP_KEYS],
 }
 
 // The mark of an entry with the cell `c`. It opened under a key that chains start with if no entry carries the key that it names
 // (`carried`).
-fn mark(c: Cell, carried: bool) -> u8
+fn mark(c: Cell, carried: bool) -> Mark
     ensures { result ≡ mark_of c carried }
 {
-    if is_done(c) {
-        if carried {
-            return OPENED;
-        }
-        return OPENED_FIRST;
+    if !is_done(c) {
+        return Mark::NotOpened;
     }
-    NOT_OPENED
+    if carried { Mark::Opened } else { Mark::OpenedFirst }
 }
 
 // Reads the numbers and the marks of the first `n` entries off the cells.
@@ -62,15 +59,13 @@ fn numbers_of(entries: [Entry; WRAP_KEYS], cells: [Cell; WRAP_KEYS], n: usize) -
 {
     let mut ids = [0u32; WRAP_KEYS];
     let mut kwks = [0u32; WRAP_KEYS];
-    let mut marks = [NOT_OPENED; WRAP_KEYS];
-    let mut i: usize = 0;
-    while i < n {
+    let mut marks = [Mark::NotOpened; WRAP_KEYS];
+    for i in 0..n {
         let e = entries[i];
         let c = cells[i];
         ids[i] = e.id;
         kwks[i] = e.kwk;
         marks[i] = mark(c, is_carried(e.kwk, entries, n));
-        i += 1;
     }
     LinkNumbers { ids, kwks, marks }
 }

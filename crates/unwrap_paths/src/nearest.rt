@@ -38,12 +38,12 @@ pub fn nearest_of(links: Links, kwks: &[u32]) -> Nearest
     let levels = links.levels;
     let n = links.count;
     let kwk = kwks[0];
-    let level = level_of(&ids, levels, n, kwk);
+    let level = level_of(&ids, &levels, n, kwk);
     let mut best = Nearest { kwk, level };
     let mut i: usize = 1;
     while i < kwks.len() {
         let kwk = kwks[i];
-        let level = level_of(&ids, levels, n, kwk);
+        let level = level_of(&ids, &levels, n, kwk);
         best = nearer(best, kwk, level);
         i += 1;
     }

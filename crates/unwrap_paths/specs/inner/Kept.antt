@@ -12,6 +12,7 @@ use Rattle.unwrap_search.specs.declared.open.Entry.{Entry}
 use Rattle.unwrap_search.specs.declared.open.Cell.{Cell}
 use Rattle.unwrap_search.specs.inner.Entries.{Lists}
 use Rattle.unwrap_search.specs.inner.Search.{Searched, Nonzero, RootsFit}
+use Rattle.unwrap_paths.specs.declared.levels.Mark.{Mark}
 use Rattle.unwrap_paths.specs.declared.links.Links.{Links}
 use Rattle.unwrap_paths.specs.inner.Code.{HasLevels}
 use Rattle.unwrap_paths.specs.inner.Links.{LinksAre}
@@ -19,7 +20,7 @@ use Rattle.unwrap_paths.specs.inner.Links.{LinksAre}
 -- the links are the numbers and levels of the first n entries, by the marks of their cells
 pub record LinksKept (n : ℕ) (entries : List Entry) (cells : List Cell) (links : Links) : Type 0 where
   pub count-is : links.count ≡ n
-  pub marks : List ℕ
+  pub marks : List Mark
   pub linked : LinksAre n n entries cells links.ids links.kwks marks
   pub levels : HasLevels n links.ids links.kwks marks links.levels
 

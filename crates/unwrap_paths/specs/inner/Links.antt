@@ -11,21 +11,23 @@ use Rattle.unwrap_search.specs.declared.open.Status.TheVariants.{Done}
 use Rattle.unwrap_search.specs.inner.Entries.{no_entry, Lists}
 use Rattle.unwrap_search.specs.inner.Search.{key_at, cell_at, carried_by}
 use Rattle.unwrap_conflicts.specs.inner.Values.{is_done}
-use Rattle.unwrap_paths.specs.inner.Code.{mark_not_opened, mark_opened, mark_opened_first}
+use Rattle.unwrap_paths.specs.inner.Code.{mark_at}
+use Rattle.unwrap_paths.specs.declared.levels.Mark.{Mark}
+use Rattle.unwrap_paths.specs.declared.levels.Mark.TheVariants.{NotOpened, Opened, OpenedFirst}
 
 -- the mark of an entry with this cell, by whether some entry carries the key that it names
-abbrev pub mark_of : Cell → Bool → ℕ
-mark_of c carried = cond (is_done c.status) (cond carried mark_opened mark_opened_first) mark_not_opened
+abbrev pub mark_of : Cell → Bool → Mark
+mark_of c carried = cond (is_done c.status) (cond carried Opened OpenedFirst) NotOpened
 
 -- the numbers and marks of the first n entries, of `all`
-pub record LinksAre (n all : ℕ) (entries : List Entry) (cells : List Cell) (ids kwks marks : List ℕ) : Type 0 where
+pub record LinksAre (n all : ℕ) (entries : List Entry) (cells : List Cell) (ids kwks : List ℕ) (marks : List Mark) : Type 0 where
   pub id-is : (i : ℕ) → i < n → oct ids i ≡ (get_or entries i no_entry).id
   pub kwk-is : (i : ℕ) → i < n → oct kwks i ≡ (get_or entries i no_entry).kwk
   pub mark-is : (frame : List ℕ) (l : List WrapKey) → Lists frame entries all l → (i : ℕ) → i < n →
-      oct marks i ≡ mark_of (cell_at cells i) (carried_by l (get_or entries i no_entry).kwk)
+      mark_at marks i ≡ mark_of (cell_at cells i) (carried_by l (get_or entries i no_entry).kwk)
 
 -- the same, in arrays that are long enough
-pub record Numbered (n : ℕ) (entries : List Entry) (cells : List Cell) (ids kwks marks : List ℕ) : Type 0 where
+pub record Numbered (n : ℕ) (entries : List Entry) (cells : List Cell) (ids kwks : List ℕ) (marks : List Mark) : Type 0 where
   pub linked : LinksAre n n entries cells ids kwks marks
   pub ids-long : n ≤ length ids
   pub kwks-long : n ≤ length kwks
