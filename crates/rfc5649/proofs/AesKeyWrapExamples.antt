@@ -4,7 +4,7 @@ use Prim.Native.Nat.{ℕ}
 use mathlib.Core.Path.{◌≡◌, refl}
 use mathlib.Core.List.{List, [], ◌∷◌}
 use Rattle.octets.specs.Compare.{order_of}
-use Rattle.octets.specs.declared.compare.Order.TheVariants.{Equal}
+use Rattle.std.specs.declared.cmp.Ordering.TheVariants.{Equal}
 use Rattle.octets.specs.Numbers.{number, octets_of}
 use Rattle.octets.proofs.Order.{order-equal}
 use Rattle.fips197.specs.Field.{xtimes, power}

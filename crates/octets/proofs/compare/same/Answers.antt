@@ -1,15 +1,6 @@
-use mathlib.Core.Path.{sym, ap, ◌∙◌}
-use Rattle.octets.specs.Compare.{is_equal, same}
+use mathlib.Core.Path.{◌∙◌}
+use Rattle.octets.proofs.Order.{same-is}
 use Rattle.octets.proofs.compare.same.Goals as goal
 
-pub returns-in-Less : goal.returns-in-Less
-unfolding same
-returns-in-Less c = sym (ap is_equal (sym c.compare.ensures ∙ c.in-Less.is))
-
-pub returns-in-Equal : goal.returns-in-Equal
-unfolding same
-returns-in-Equal c = sym (ap is_equal (sym c.compare.ensures ∙ c.in-Equal.is))
-
-pub returns-in-Greater : goal.returns-in-Greater
-unfolding same
-returns-in-Greater c = sym (ap is_equal (sym c.compare.ensures ∙ c.in-Greater.is))
+pub returns : goal.returns
+returns c = c.eq.ensures ∙ same-is c.args.a.now c.args.b.now

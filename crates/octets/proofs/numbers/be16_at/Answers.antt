@@ -4,6 +4,5 @@ use Rattle.octets.proofs.numbers.be16_at.Goals as goal
 
 pub returns : goal.returns
 returns c =
-    let a = c.args in
-    let e = be16-is a.s.now a.at in
+    let e = be16-is c.args.s.now c.args.at in
     (omega arith, omega arith)

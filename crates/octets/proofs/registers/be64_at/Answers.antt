@@ -1,9 +1,9 @@
-use Rattle.octets.proofs.RoundTrip.{number-eight}
+use native.Mathlib.Omega.{arith}
+use Rattle.octets.proofs.Numerals.{be32-is, be64-is}
 use Rattle.octets.proofs.registers.be64_at.Goals as goal
-
--- `octets::registers::be64_at` meets its contract.
 
 pub returns : goal.returns
 returns c =
-    let a = c.args in
-    number-eight a.s.now a.at c.be32_at-high.ensures c.be32_at-low.ensures
+    let d = be32-is c.args.s.now c.args.at in
+    let e = be64-is c.args.s.now c.args.at in
+    omega arith

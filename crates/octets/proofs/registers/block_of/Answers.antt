@@ -1,18 +1,12 @@
-use mathlib.Core.Path.{◌≡◌, ap, ap₂}
-use mathlib.Core.List.{List, ◌++◌}
+use mathlib.Core.Path.{ap₂, ◌∙◌}
+use mathlib.Core.List.{List, [], ◌∷◌, ◌++◌}
 use Prim.Native.Nat.{ℕ}
-use Rattle.octets.specs.Numbers.{oct, octets_of}
-use Rattle.octets.specs.Generate.{gen}
+use borrow.Rule.Slice.PartMut.{put_mid}
+use Rattle.octets.specs.Numbers.{octets_of}
 use Rattle.octets.proofs.registers.block_of.Goals as goal
 
--- `octets::registers::block_of` meets its contract.
-
--- the elements read one by one
-eight : (x : ℕ) {h : List ℕ} → h ≡ octets_of 8 x → gen (oct h) 0 8 ≡ octets_of 8 x
-unfolding octets_of
-eight x e = ap (λ (l : List ℕ). gen (oct l) 0 8) e
-
 pub returns : goal.returns
+unfolding octets_of
 returns c =
-    let a = c.args in
-    ap₂ {C = List ℕ} ◌++◌ (eight a.a c.octets_of-h.ensures) (eight a.b c.octets_of-l.ensures)
+    ap₂ {C = List ℕ} (λ (h l : List ℕ). put_mid 8 8 (h ++ (0 ∷ 0 ∷ 0 ∷ 0 ∷ 0 ∷ 0 ∷ 0 ∷ 0 ∷ [])) l)
+    (c.copy_from_slice.ensures.after ∙ c.octets_of.ensures) (c.copy_from_slice-2.ensures.after ∙ c.octets_of-2.ensures)

@@ -1,9 +1,6 @@
-use mathlib.Core.Path.{refl}
-use Rattle.octets.specs.Numbers.{octets_of}
+use mathlib.Core.Path.{◌∙◌}
+use Rattle.octets.proofs.RoundTrip.{high-first}
 use Rattle.octets.proofs.registers.octets_of.Goals as goal
 
--- `octets::registers::octets_of` meets its contract.
-
 pub returns : goal.returns
-unfolding octets_of
-returns c = refl
+returns c = c.to_be_bytes.ensures ∙ high-first 8 c.args.x
