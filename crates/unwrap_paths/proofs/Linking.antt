@@ -24,10 +24,6 @@ set_next d f s n v h e g =
     (λ i b. get_or-set_other s n i v d (λ q. let z : i < n = b in omega arith) ∙ g i b) (get_or-set_same s n v d h ∙ e)
 
 module _ (all : ℕ) (entries : List Entry) (cells : List Cell) where
-  pub linked-none : (ids kwks : List ℕ) (marks : List Mark) → LinksAre 0 all entries cells ids kwks marks
-  linked-none ids kwks marks =
-      record { id-is = λ i h. absurd (omega arith); kwk-is = λ i h. absurd (omega arith); mark-is = λ frame l t i h. absurd (omega arith) }
-
   pub linked-next : (ids kwks : List ℕ) (marks : List Mark) (n : ℕ) → n < length ids → n < length kwks → n < length marks → (e : Entry)
       (c : Cell) (m : Mark) (b : Bool) → e ≡ get_or entries n no_entry → c ≡ cell_at cells n →
       ((frame : List ℕ) (l : List WrapKey) → Lists frame entries all l → b ≡ carried_by l e.kwk) → m ≡ mark_of c b →

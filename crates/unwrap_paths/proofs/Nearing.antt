@@ -10,26 +10,6 @@ use Rattle.unwrap_paths.specs.declared.nearest.Nearest.{Nearest}
 use Rattle.unwrap_paths.specs.inner.Code.{HasLevel}
 use Rattle.unwrap_paths.specs.inner.Nearest.{NotBehind, NearerOf, Before, NearestOf}
 
--- ---- two keys
-module _ (a : Nearest) (kwk level : ℕ) where
-  abbrev new : Nearest
-  new = record { kwk = kwk; level = level }
-
-  pub nearer-level : level < a.level → NearerOf a kwk level new
-  nearer-level h = record { one = inr refl; first = inl h; second = inr (refl, omega arith) }
-
-  pub nearer-kwk : level ≡ a.level → kwk < a.kwk → NearerOf a kwk level new
-  nearer-kwk e h = record { one = inr refl; first = inr (e, omega arith); second = inr (refl, omega arith) }
-
-  pub nearer-same : level ≡ a.level → a.kwk ≤ kwk → NearerOf a kwk level a
-  nearer-same e h = record { one = inl refl; first = inr (refl, omega arith); second = inr (sym e, h) }
-
-  pub nearer-not : a.level ≤ level → (level ≡ a.level → ⊥) → NearerOf a kwk level a
-  nearer-not h f = record { one = inl refl; first = inr (refl, omega arith); second = inl (less a.level level h f) }
-    where
-      less : (m n : ℕ) → m ≤ n → (n ≡ m → ⊥) → m < n
-      less m n h f = omega arith
-
 not_behind : (r a : Nearest) (k l : ℕ) → NotBehind r a.kwk a.level → NotBehind a k l → NotBehind r k l
 not_behind r a k l (inl g) (inl h) = inl (omega arith)
 not_behind r a k l (inl g) (inr h) = let e = h.0 in inl (omega arith)

@@ -6,12 +6,12 @@ use mathlib.Core.Bool.{Bool, true, false, not, cond, ◌&&◌, ◌||◌, false�
 use mathlib.Core.List.{List, [], ◌∷◌, ◌++◌, append-nil}
 use borrow.Author.Tests.{le-leb, eq-eqb, ne_eqb}
 use lib.Dec.{eqb}
-use lib.ListN.{length, take, drop, get_or, set, replicate, length-append, length-replicate}
-use lib.Seq.{take-append_seam, drop-append_seam, length-take-le}
+use lib.ListN.{length, take, drop, get_or, set, replicate, length-append, length-replicate, drop_of_length-le}
+use lib.Seq.{drop-cons, take-append_seam, drop-append_seam, length-take-le}
+use Rattle.std.proofs.Math.Numerals.{add-one}
 use Rattle.lists.specs.Lists.{any, keep}
 use Rattle.state_keys.specs.Limits.{limits}
 use Rattle.lists.proofs.Cases.{bool_cases}
-use Rattle.lists.proofs.Parts.{part-cons, part_end}
 use Rattle.lists.proofs.Fill.{Filled, filled_more, written-more, filled-all, filled-count}
 use Rattle.state.specs.Held.{keys_of, held_of, blank_key, key_with, held_key}
 use Rattle.state.specs.declared.held.HeldKey.{HeldKey}
@@ -19,17 +19,7 @@ use Rattle.state.specs.declared.held.Held.{Held}
 use Rattle.rules_outcome.specs.Holding.{from_key, on_path, path_before}
 use Rattle.unwrap_paths.specs.inner.Holding.{GoesBefore}
 
--- ---- the tests
-module _ (met : Bool) (id end : ℕ) where
-  pub met-before : met ≡ true → true ≡ (met || eqb id end)
-  met-before e = rw e refl
-
-  pub met-here : met ≡ false → id ≡ end → true ≡ (met || eqb id end)
-  met-here e h = rw (e, eq-eqb id end h) refl
-
-  pub met-not : met ≡ false → (id ≡ end → ⊥) → false ≡ (met || eqb id end)
-  met-not e h = rw (e, ne_eqb id end h) refl
-
+-- ---- the test
 -- a key of the path is found by its Key ID
 with-id : (l : List HeldKey) (i : ℕ) → (key_with i l).fits ≡ any (λ (p : HeldKey). eqb p.id i) l
 unfolding key_with any
@@ -41,11 +31,8 @@ module _ (path : Held) (few : path.count ≤ limits.held_keys) (met : Bool) (k :
   unfolding held_key
   found-on = rw (le-leb path.count limits.held_keys few) (with-id (keys_of path) k.id)
 
-  pub stays-not : met ≡ true → (held_key limits k.id path).fits ≡ true → false ≡ (met && not (on_path (keys_of path) k))
-  stays-not e f = let g = sym found-on ∙ f in rw (e, g) refl
-
-  pub stays_on : met ≡ true → (held_key limits k.id path).fits ≡ false → true ≡ (met && not (on_path (keys_of path) k))
-  stays_on e f = let g = sym found-on ∙ f in rw (e, g) refl
+  pub stays-is : met ≡ true → (fits : Bool) → fits ≡ (held_key limits k.id path).fits → not fits ≡ (met && not (on_path (keys_of path) k))
+  stays-is e fits f = let g = f ∙ found-on in rw (e, g) refl
 
 -- ---- the loop
 module _ (path : List HeldKey) (end : ℕ) where
@@ -64,11 +51,11 @@ module _ (path : List HeldKey) (end : ℕ) where
       (λ e.
       bool_cases (eqb k.id end) (λ g. bool_cases (off k) (λ o. rw (e, g, o) refl) (λ o. rw (e, g, o) refl)) (λ g. rw (e, g) refl))
 
-  module _ (old : List HeldKey) (n : ℕ) where
+  module _ (old : List HeldKey) where
     pub record Putting (keys : List HeldKey) (count : ℕ) (met : Bool) (i : ℕ) : Type 0 where
       pub filled : Filled limits.held_keys blank_key keys count
       pub few : count ≤ limits.held_keys
-      pub are : take count keys ++ left met (drop i (take n old)) ≡ path ++ left false (take n old)
+      pub are : take count keys ++ left met (drop i old) ≡ path ++ left false old
 
     pub put-none : (h : Held) → h ≡ held_of limits path → h.count ≤ limits.held_keys → Putting h.keys h.count false 0
     unfolding held_of
@@ -85,10 +72,10 @@ module _ (path : List HeldKey) (end : ℕ) where
             record {
               filled = record { long = omega (arith, x, y, g); blank = drop-append_seam path b };
               few = g;
-              are = ap (λ (l : List HeldKey). l ++ left false (take n old)) (take-append_seam path b);
+              are = ap (λ (l : List HeldKey). l ++ left false old) (take-append_seam path b);
             }
 
-    module _ (h : n ≤ length old) (keys : List HeldKey) (count : ℕ) (met : Bool) (i : ℕ) (b : Putting keys count met i) (g : i < n)
+    module _ (keys : List HeldKey) (count : ℕ) (met : Bool) (i : ℕ) (b : Putting keys count met i) (g : i < length old)
         (d : HeldKey) where
       abbrev k : HeldKey
       k = get_or old i d
@@ -96,14 +83,14 @@ module _ (path : List HeldKey) (end : ℕ) where
       abbrev now : Bool
       now = met || eqb k.id end
 
-      rest-is : drop i (take n old) ≡ k ∷ drop (i + 1) (take n old)
-      rest-is = part-cons old n h i d g
+      rest-is : drop i old ≡ k ∷ drop (i + 1) old
+      rest-is = rw add-one (drop-cons old i d g)
 
-      passed_on : (now && off k) ≡ false → left met (drop i (take n old)) ≡ left now (drop (i + 1) (take n old))
-      passed_on e = ap (left met) rest-is ∙ left-next met k (drop (i + 1) (take n old)) ∙ rw e refl
+      passed_on : (now && off k) ≡ false → left met (drop i old) ≡ left now (drop (i + 1) old)
+      passed_on e = ap (left met) rest-is ∙ left-next met k (drop (i + 1) old) ∙ rw e refl
 
-      put_on : (now && off k) ≡ true → left met (drop i (take n old)) ≡ k ∷ left now (drop (i + 1) (take n old))
-      put_on e = ap (left met) rest-is ∙ left-next met k (drop (i + 1) (take n old)) ∙ rw e refl
+      put_on : (now && off k) ≡ true → left met (drop i old) ≡ k ∷ left now (drop (i + 1) old)
+      put_on e = ap (left met) rest-is ∙ left-next met k (drop (i + 1) old) ∙ rw e refl
 
       -- by what the code answers: whether the key was met, and whether it stays
       module _ (m stay : Bool) (m-is : m ≡ now) (stay-is : stay ≡ (m && off k)) where
@@ -125,14 +112,14 @@ module _ (path : List HeldKey) (end : ℕ) where
             (record {
               filled = filled_more limits.held_keys blank_key keys count b.filled f k;
               few = omega arith;
-              are = written-more limits.held_keys blank_key keys count b.filled f k (left now (drop (i + 1) (take n old)))
+              are = written-more limits.held_keys blank_key keys count b.filled f k (left now (drop (i + 1) old))
                   ∙ ap (λ (l : List HeldKey). take count keys ++ l) (sym (put_on (told ∙ e))) ∙ b.are;
             })
 
         -- no room for one more
-        pub put-over : stay ≡ true → limits.held_keys ≤ count → limits.held_keys < length (path ++ left false (take n old))
+        pub put-over : stay ≡ true → limits.held_keys ≤ count → limits.held_keys < length (path ++ left false old)
         put-over e f =
-            let l = left now (drop (i + 1) (take n old)) in
+            let l = left now (drop (i + 1) old) in
             let a = ap length (sym b.are ∙ ap (λ (m : List HeldKey). take count keys ++ m) (put_on (told ∙ e))) in
             let x = length-append (take count keys) (k ∷ l) in
             let c = b.filled.long in
@@ -141,16 +128,16 @@ module _ (path : List HeldKey) (end : ℕ) where
             let w : length (k ∷ l) ≡ suc (length l) = refl in
             omega (arith, a, x, y, w, f)
 
-    pub put-end : (keys : List HeldKey) (count : ℕ) (met : Bool) (i : ℕ) → n ≤ length old → n ≤ i → Putting keys count met i →
-        record { keys = keys; count = count } ≡ held_of limits (path ++ left false (take n old))
+    pub put-end : (keys : List HeldKey) (count : ℕ) (met : Bool) (i : ℕ) → length old ≤ i → Putting keys count met i →
+        record { keys = keys; count = count } ≡ held_of limits (path ++ left false old)
     unfolding held_of left keep from_key
-    put-end keys count met i h g b =
-        let none : left met (drop i (take n old)) ≡ [] =
-        ap (left met) (part_end old n h i g) ∙ bool_cases met (λ e. rw e refl) (λ e. rw e refl) in
-        let all : take count keys ++ [] ≡ path ++ left false (take n old) =
+    put-end keys count met i g b =
+        let none : left met (drop i old) ≡ [] =
+        ap (left met) (drop_of_length-le old g) ∙ bool_cases met (λ e. rw e refl) (λ e. rw e refl) in
+        let all : take count keys ++ [] ≡ path ++ left false old =
         ap (λ (l : List HeldKey). take count keys ++ l) (sym none) ∙ b.are in
-        let x = filled-all limits.held_keys blank_key keys (path ++ left false (take n old)) count b.filled b.few all in
-        let y = filled-count limits.held_keys blank_key keys (path ++ left false (take n old)) count b.filled b.few all in
+        let x = filled-all limits.held_keys blank_key keys (path ++ left false old) count b.filled b.few all in
+        let y = filled-count limits.held_keys blank_key keys (path ++ left false old) count b.filled b.few all in
         λ t. record { keys = x t; count = y t }
 
   -- ---- the answers

@@ -29,19 +29,13 @@ fn path_keys(links: Links, reached: Held, trail: Trail) -> Held
     requires { TrailFits trail }
     ensures { result ≡ held_of limits (map (held_at links.ids reached) (take trail.count trail.places)) }
 {
-    let places = trail.places;
     let count = trail.count;
-    let ids = links.ids;
-    let none = Held::new();
-    let mut keys = none.keys;
-    let mut i: usize = 0;
-    while i < count {
-        let at = places[i];
-        let id = ids[at];
-        let found = reached.find(id);
-        let key = found.key;
+    let mut keys = Held::new().keys;
+    for i in 0..count {
+        let at = trail.places[i];
+        let id = links.ids[at];
+        let key = reached.find(id).key;
         keys[i] = HeldKey { id, key };
-        i += 1;
     }
     Held { keys, count }
 }
@@ -52,24 +46,8 @@ fn path_end(links: Links, trail: Trail) -> u32
     requires count_nonzero { 0 < trail.count }
     ensures { result ≡ oct links.kwks (oct trail.places (trail.count - 1)) }
 {
-    let places = trail.places;
-    let kwks = links.kwks;
-    let last = trail.count - 1;
-    let at = places[last];
-    kwks[at]
-}
-
-// Whether the key with the Key ID `end` was met, by whether it was before and by the Key ID of one key more.
-fn is_met(met: bool, id: u32, end: u32) -> bool
-    ensures { result ≡ (met || eqb id end) }
-{
-    if met {
-        return true;
-    }
-    if id == end {
-        return true;
-    }
-    false
+    let at = trail.places[trail.count - 1];
+    links.kwks[at]
 }
 
 // Whether a held key stays behind the path: it is the one that the path ends on or behind it (`met`), and the path has not its Key ID.
@@ -77,14 +55,7 @@ fn stays(path: Held, met: bool, k: HeldKey) -> bool
     requires { path.count ≤ limits.held_keys }
     ensures { result ≡ (met && not (on_path (keys_of path) k)) }
 {
-    if met {
-        let found = path.find(k.id);
-        if found.fits {
-            return false;
-        }
-        return true;
-    }
-    false
+    met && !path.find(k.id).fits
 }
 
 // Puts the keys of a path before those of the old list that stay.
@@ -100,26 +71,21 @@ fn path_before(path: Held, end: u32, old: Held) -> PathHeld
         };
     }
     let n = old.count;
-    let olds = old.keys;
     let mut keys = path.keys;
     let mut count = path.count;
     let mut met = false;
-    let mut place: usize = 0;
-    while place < n {
-        let k = olds[place];
-        let next = place + 1;
-        met = is_met(met, k.id, end);
-        if stays(path, met, k) {
+    for k in &old.keys[..n] {
+        met |= k.id == end;
+        if stays(path, met, *k) {
             if HELD_KEYS <= count {
                 return PathHeld {
                     over: true,
                     held: old,
                 };
             }
-            keys[count] = k;
+            keys[count] = *k;
             count += 1;
         }
-        place = next;
     }
     let held = Held { keys, count };
     PathHeld { over: false, held }

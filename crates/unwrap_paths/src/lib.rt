@@ -24,9 +24,12 @@ pub fn path(links: Links, start: Nearest) -> Trail
     ensures { GoesBack links.count links.ids links.kwks links.levels start.kwk start.level result.places
         result.count }
 {
-    let ids = links.ids;
-    let kwks = links.kwks;
-    let levels = links.levels;
-    let n = links.count;
-    way_back(&ids, &kwks, &levels, n, start.kwk, start.level)
+    way_back(
+        &links.ids,
+        &links.kwks,
+        &links.levels,
+        links.count,
+        start.kwk,
+        start.level,
+    )
 }

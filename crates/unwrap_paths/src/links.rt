@@ -49,7 +49,11 @@ fn mark(c: Cell, carried: bool) -> Mark
     if !is_done(c) {
         return Mark::NotOpened;
     }
-    if carried { Mark::Opened } else { Mark::OpenedFirst }
+    if carried {
+        Mark::Opened
+    } else {
+        Mark::OpenedFirst
+    }
 }
 
 // Reads the numbers and the marks of the first `n` entries off the cells.
@@ -75,10 +79,7 @@ pub fn links_of(entries: [Entry; WRAP_KEYS], cells: [Cell; WRAP_KEYS], n: usize)
     requires { n ≤ limits.wrap_keys }
     ensures { LinksKept n entries cells result }
 {
-    let numbers = numbers_of(entries, cells, n);
-    let ids = numbers.ids;
-    let kwks = numbers.kwks;
-    let marks = numbers.marks;
+    let LinkNumbers { ids, kwks, marks } = numbers_of(entries, cells, n);
     let levels = levels(&ids, &kwks, &marks, n);
     Links {
         ids,

@@ -17,13 +17,8 @@ pub struct Nearest {
 fn nearer(a: Nearest, kwk: u32, level: usize) -> Nearest
     ensures { NearerOf a kwk level result }
 {
-    if level < a.level {
+    if level < a.level || level == a.level && kwk < a.kwk {
         return Nearest { kwk, level };
-    }
-    if level == a.level {
-        if kwk < a.kwk {
-            return Nearest { kwk, level };
-        }
     }
     a
 }
@@ -34,18 +29,14 @@ pub fn nearest_of(links: Links, kwks: &[u32]) -> Nearest
     requires kwks_nonzero { 0 < length kwks.now }
     ensures { NearestOf links.count links.ids links.levels (length kwks.now) kwks.now result }
 {
-    let ids = links.ids;
-    let levels = links.levels;
-    let n = links.count;
-    let kwk = kwks[0];
-    let level = level_of(&ids, &levels, n, kwk);
-    let mut best = Nearest { kwk, level };
-    let mut i: usize = 1;
-    while i < kwks.len() {
-        let kwk = kwks[i];
-        let level = level_of(&ids, &levels, n, kwk);
-        best = nearer(best, kwk, level);
-        i += 1;
+    let first = kwks[0];
+    let mut best = Nearest {
+        kwk: first,
+        level: level_of(&links.ids, &links.levels, links.count, first),
+    };
+    for kwk in &kwks[1..] {
+        let level = level_of(&links.ids, &links.levels, links.count, *kwk);
+        best = nearer(best, *kwk, level);
     }
     best
 }
