@@ -7,7 +7,7 @@ ghost use Rattle.check_bagkeys.specs.inner.Facts.{carries_key, with_key, key_fac
 use ikev2_numbers::KWK_ID_AT;
 use wire_attributes::attribute_value;
 use wire_attributes::tables::{Meaning, Place};
-use wire_readers::values::{ValueFound, next_attribute};
+use wire_readers::values::next_attribute;
 
 // The facts of the wrapped keys of one bag: how many there are; some key has a Key ID (`named`), has none (`unnamed`), has a KWK ID, where
 // an ID of 0 counts as none; the two IDs of some key are equal, be they 0 or not (`itself`).
@@ -49,15 +49,9 @@ pub fn keys_of(m: Meaning, place: Place, a: &[u8]) -> KeyFacts
         itself: false,
     };
     let mut at = 0;
-    loop {
-        match next_attribute(m, place, a, at) {
-            ValueFound::At(start, end) => {
-                f = with_key(f, attribute_value(a, start));
-                at = end;
-            }
-            ValueFound::Nothing => {
-                return f;
-            }
-        }
+    while let Some(x) = next_attribute(m, place, a, at) {
+        f = with_key(f, attribute_value(a, x.start));
+        at = x.end;
     }
+    f
 }

@@ -7,7 +7,7 @@ ghost use Rattle.check_composition.specs.inner.Numbers.{greater, is_number, numb
 use octets::numbers::{be16_at, be32_at};
 use wire_attributes::attribute_value;
 use wire_attributes::tables::{Meaning, Place};
-use wire_readers::values::{ValueFound, next_attribute};
+use wire_readers::values::next_attribute;
 
 // How many numbers the attributes of one meaning give, and the greatest of them, or 0 if there is none.
 #[derive(Clone, Copy)]
@@ -85,15 +85,9 @@ pub fn numbers_of(m: Meaning, place: Place, a: &[u8]) -> Numbers
         greatest: 0,
     };
     let mut at = 0;
-    loop {
-        match next_attribute(m, place, a, at) {
-            ValueFound::At(start, end) => {
-                n = with_number(m, n, attribute_value(a, start));
-                at = end;
-            }
-            ValueFound::Nothing => {
-                return n;
-            }
-        }
+    while let Some(x) = next_attribute(m, place, a, at) {
+        n = with_number(m, n, attribute_value(a, x.start));
+        at = x.end;
     }
+    n
 }

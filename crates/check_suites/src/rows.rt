@@ -11,7 +11,7 @@ ghost use Rattle.check_suites.specs.inner.Octets.{key_length_needs, transform_in
 use ikev2_numbers::{ENCR, KWA};
 use state_keys::algorithms::Needed;
 use wire_attributes::tables::{Meaning, Place};
-use wire_readers::values::ValueFound;
+use wire_readers::values::next_attribute;
 
 // Looks up the octets of keying material in the algorithm table, by transform type `kind`, ID `id` and Key Length `bits`. Answers 0 if
 // there is no such row.
@@ -32,18 +32,12 @@ fn key_length_octets(place: Place, id: usize, a: &[u8]) -> usize
 {
     let mut total = 0;
     let mut at = 0;
-    loop {
-        match wire_readers::values::next_attribute(Meaning::KeyLength, place, a, at) {
-            ValueFound::At(start, end) => {
-                let v = wire_attributes::attribute_value(a, start);
-                total = total + needed(1, id, octets::numbers::be16_at(v, 0));
-                at = end;
-            }
-            ValueFound::Nothing => {
-                return total;
-            }
-        }
+    while let Some(x) = next_attribute(Meaning::KeyLength, place, a, at) {
+        let v = wire_attributes::attribute_value(a, x.start);
+        total += needed(1, id, octets::numbers::be16_at(v, 0));
+        at = x.end;
     }
+    total
 }
 
 // Answers the octets that a transform needs for encryption. Type 1 needs those of its Key Lengths in the attributes `a`, another `kind`

@@ -32,7 +32,7 @@ use octets::numbers::be32_at;
 use ready::{ReadyKey, key_zero, ready_for};
 use wire_attributes::attribute_value;
 use wire_attributes::tables::{Meaning, Place};
-use wire_readers::values::{ValueFound, next_attribute};
+use wire_readers::values::next_attribute;
 
 // Opens one copy, the value of an SA_KEY, under the key that its KWK ID names. If there is no such key, it is not tried.
 fn try_copy(
@@ -80,25 +80,19 @@ pub fn copies<'a>(
     let mut openers = no_openers();
     let mut last = key_zero(schedule);
     let mut at = 0;
-    loop {
-        match next_attribute(Meaning::SaKey, place, a, at) {
-            ValueFound::At(start, end) => {
-                let copy = attribute_value(a, start);
-                let kwk = be32_at(copy, KWK_ID_AT);
-                let key = ready_for(kwk, last, tables, schedule, carried, fresh, ids, block);
-                last = key;
-                let one = try_copy(copy, need, tables, key);
-                let found = one.found;
-                openers = note(openers, found, kwk);
-                known = merge(known, one);
-                at = end;
-            }
-            ValueFound::Nothing => {
-                return Copied {
-                    opened: known,
-                    openers,
-                };
-            }
-        }
+    while let Some(x) = next_attribute(Meaning::SaKey, place, a, at) {
+        let copy = attribute_value(a, x.start);
+        let kwk = be32_at(copy, KWK_ID_AT);
+        let key = ready_for(kwk, last, tables, schedule, carried, fresh, ids, block);
+        last = key;
+        let one = try_copy(copy, need, tables, key);
+        let found = one.found;
+        openers = note(openers, found, kwk);
+        known = merge(known, one);
+        at = x.end;
+    }
+    Copied {
+        opened: known,
+        openers,
     }
 }

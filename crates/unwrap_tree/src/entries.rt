@@ -13,7 +13,7 @@ use unwrap_search::open::Entry;
 use wire_attributes::attribute_value;
 use wire_attributes::tables::{Meaning, Place};
 use wire_readers::Stretch;
-use wire_readers::values::{ValueFound, next_attribute};
+use wire_readers::values::next_attribute;
 
 // A list of entries: the first `count` of `places`.
 #[derive(Clone, Copy)]
@@ -64,16 +64,11 @@ pub fn entries(kd: &[u8], bag: Stretch, meaning: Meaning, place: Place) -> Listi
     let mut places = [blank(); WRAP_KEYS];
     let mut n: usize = 0;
     let mut at: usize = 0;
-    loop {
-        match next_attribute(meaning, place, s, at) {
-            ValueFound::At(b, d) => {
-                places[n] = entry(attribute_value(s, b), a + d);
-                n = n + 1;
-                at = d;
-            }
-            ValueFound::Nothing => {
-                return Listing { places, count: n };
-            }
-        }
+    while let Some(x) = next_attribute(meaning, place, s, at) {
+        let d = x.end;
+        places[n] = entry(attribute_value(s, x.start), a + d);
+        n += 1;
+        at = d;
     }
+    Listing { places, count: n }
 }

@@ -6,7 +6,7 @@ use mathlib.Core.Bool.{Bool, true, false, not, cond}
 use native.Mathlib.Omega.{arith}
 use borrow.Author.Tests.{eq-eqb, ne_eqb}
 use lib.Dec.{leb, eqb}
-use lib.ListN.{length, drop, get_or, length-drop}
+use lib.ListN.{length, drop, length-drop}
 use lib.Seq.{drop-drop}
 use Rattle.lists.proofs.Cases.{and_parts}
 use Rattle.octets.specs.Walk.{be16, part, Reading, whole, broken}
@@ -20,8 +20,7 @@ use Rattle.wire_attributes.specs.Tree.{code_of, means, values_of}
 use Rattle.wire_attributes.specs.Layout.{formed_in, fits_in, attribute, attributes}
 use Rattle.wire_attributes.specs.Grammar.{IsAttribute}
 use Rattle.wire_readers.specs.inner.Values.{is_whole, items_of, attributes_in, values_in, places_of, places_in, value_size}
-use Rattle.wire_readers.specs.inner.Values.{once, nowhere, MetAt, first_value, first_start}
-use Rattle.wire_readers.specs.declared.Stretch.{Stretch}
+use Rattle.wire_readers.specs.inner.Values.{once, ValueFoundAt, MetAt}
 use Rattle.wire_attributes.specs.declared.tables.Place.{Place}
 use Rattle.wire_attributes.specs.declared.tables.Meaning.{Meaning}
 use Rattle.wire_attributes.specs.declared.tables.Meaning.TheVariants as meaning
@@ -125,7 +124,7 @@ module _ (m : Meaning) (p : Place) (s : List ℕ) (at : ℕ) (e : is_whole (attr
 
     module _ (short : Bool) (kind a n : ℕ) (f : IsRead (drop at s) short kind a n) where
       -- the next place
-      pub next-inside : (0 < n) × (at + n ≤ length s) × (a ≤ n)
+      next-inside : (0 < n) × (at + n ≤ length s) × (a ≤ n)
       next-inside =
           let i = read-inside (drop at s) short kind a n f in
           (omega (arith, i.2), omega (arith, i.1, length-drop at s), i.0)
@@ -133,29 +132,29 @@ module _ (m : Meaning) (p : Place) (s : List ℕ) (at : ℕ) (e : is_whole (attr
       size_is : drop (attribute_size (drop at s)) (drop at s) ≡ drop (at + n) s
       size_is = ap (λ (y : ℕ). drop y (drop at s)) f.size ∙ drop-drop n at s
 
-      pub next-whole : is_whole (attributes p 0 (drop (at + n) s)) ≡ true
+      next-whole : is_whole (attributes p 0 (drop (at + n) s)) ≡ true
       next-whole = subst (λ (l : List ℕ). is_whole (attributes p 0 l) ≡ true) size_is head.rest
 
       listed : attributes_in p (drop at s) ≡ attribute_of (drop at s) ∷ attributes_in p (drop (at + n) s)
       listed = head.first ∙ ap (λ (l : List ℕ). attribute_of (drop at s) ∷ attributes_in p l) size_is
 
-      meant : (c w : ℕ) → c ≡ code_of (meaning_of p kind) → w ≡ code_of m → means m p (attribute_of (drop at s)) ≡ eqb c w
-      meant c w cq wq = λ i. eqb ((ap (λ (y : ℕ). code_of (meaning_of p y)) f.type ∙ sym cq) i) (sym wq i)
+      meant : means m p (attribute_of (drop at s)) ≡ eqb (code_of (meaning_of p kind)) (code_of m)
+      meant = ap (λ (y : ℕ). eqb (code_of (meaning_of p y)) (code_of m)) f.type
 
-      pub miss : (c w : ℕ) → c ≡ code_of (meaning_of p kind) → w ≡ code_of m → (c ≡ w → ⊥) → values_in m p (drop at s) ≡ values_in m p (drop
-          (at + n) s)
+      miss : (code_of (meaning_of p kind) ≡ code_of m → ⊥) → values_in m p (drop at s) ≡ values_in m p (drop (at + n) s)
       unfolding values_of
-      miss c w cq wq ne = ap (values_of m p) listed ∙ rw (meant c w cq wq, ne_eqb c w ne)
+      miss ne = ap (values_of m p) listed ∙ rw (meant, ne_eqb (code_of (meaning_of p kind)) (code_of m) ne)
 
-      pub hit : (c w : ℕ) → c ≡ code_of (meaning_of p kind) → w ≡ code_of m → c ≡ w
+      hit : code_of (meaning_of p kind) ≡ code_of m
           → values_in m p (drop at s) ≡ part s (at + a) (at + n) ∷ values_in m p (drop (at + n) s)
       unfolding values_of
-      hit c w cq wq eq =
+      hit eq =
           let d : at + n - (at + a) ≡ n - a = omega arith in
           let v : value_octets (drop at s) ≡ part s (at + a) (at + n) = rw (f.start, f.size, d, drop-drop a at s) in
-          ap (values_of m p) listed ∙ rw (meant c w cq wq, eq-eqb c w eq) (ap (λ (y : List ℕ). y ∷ values_in m p (drop (at + n) s)) v)
+          ap (values_of m p) listed
+          ∙ rw (meant, eq-eqb (code_of (meaning_of p kind)) (code_of m) eq) (ap (λ (y : List ℕ). y ∷ values_in m p (drop (at + n) s)) v)
 
-      pub starts-after : 0 < a
+      starts-after : 0 < a
       starts-after = go (leb 32768 (be16 (drop at s) 0)) f.start
         where
           go : (t : Bool) → cond t 2 4 ≡ a → 0 < a
@@ -170,29 +169,30 @@ module _ (m : Meaning) (p : Place) (s : List ℕ) (at : ℕ) (e : is_whole (attr
           rw (f.start, f.size) (part_length (drop at s) a n i.0 i.1 ∙ d)
 
       -- the value that `attribute_value` hands on stands there
-      pub value-start : at + a ≡ value_start s at
+      value-start : at + a ≡ value_start s at
       value-start = starts-there s at short kind a n f
 
-      pub value-octets : value_at (drop at s) ≡ part s (at + a) (at + n)
+      value-octets : value_at (drop at s) ≡ part s (at + a) (at + n)
       value-octets = sym (value_there s at short kind a n f)
 
       -- where it stands
       span-is : at + span_of (attribute_of (drop at s)) ≡ at + n
       span-is = omega (arith, f.start, value-length, next-inside.2)
 
-      pub miss-place : (c w : ℕ) → c ≡ code_of (meaning_of p kind) → w ≡ code_of m → (c ≡ w → ⊥) → places_in m p s at ≡ places_in m p s (at + n)
+      miss-place : (code_of (meaning_of p kind) ≡ code_of m → ⊥) → places_in m p s at ≡ places_in m p s (at + n)
       unfolding places_of
-      miss-place c w cq wq ne =
+      miss-place ne =
           ap (places_of m p at) listed
-          ∙ rw (meant c w cq wq, ne_eqb c w ne) (ap (λ (y : ℕ). places_of m p y (attributes_in p (drop (at + n) s))) span-is)
+          ∙ rw (meant, ne_eqb (code_of (meaning_of p kind)) (code_of m) ne)
+          (ap (λ (y : ℕ). places_of m p y (attributes_in p (drop (at + n) s))) span-is)
 
-      pub hit-place : (c w : ℕ) → c ≡ code_of (meaning_of p kind) → w ≡ code_of m → c ≡ w
+      hit-place : code_of (meaning_of p kind) ≡ code_of m
           → places_in m p s at ≡ record { start = at + a; end = at + n } ∷ places_in m p s (at + n)
       unfolding places_of
-      hit-place c w cq wq eq =
+      hit-place eq =
           let here : at + lead_of (attribute_of (drop at s)) ≡ at + a = ap (λ (y : ℕ). at + y) f.start in
           ap (places_of m p at) listed
-          ∙ rw (meant c w cq wq, eq-eqb c w eq)
+          ∙ rw (meant, eq-eqb (code_of (meaning_of p kind)) (code_of m) eq)
           (λ j. record { start = here j; end = span-is j } ∷ places_of m p (span-is j) (attributes_in p (drop (at + n) s)))
 
       short-value : is_short (drop at s) ≡ true → at + n - (at + a) ≡ 2
@@ -201,32 +201,41 @@ module _ (m : Meaning) (p : Place) (s : List ℕ) (at : ℕ) (e : is_whole (attr
           let h : n ≡ 4 = sym f.size ∙ ap (λ (u : Bool). cond u 4 (4 + be16 (drop at s) 2)) t in
           omega (arith, g, h)
 
-      pub size : (c w : ℕ) → c ≡ code_of (meaning_of p kind) → w ≡ code_of m → c ≡ w → value_size m (at + n - (at + a)) ≡ true
-      size c w cq wq eq =
-          let k : m ≡ meaning_of p (kind_of (drop at s)) =
-          sym (ap (meaning_of p) f.type ∙ same_code (meaning_of p kind) m (sym cq ∙ eq ∙ wq)) in
+      size : code_of (meaning_of p kind) ≡ code_of m → value_size m (at + n - (at + a)) ≡ true
+      size eq =
+          let k : m ≡ meaning_of p (kind_of (drop at s)) = sym (ap (meaning_of p) f.type ∙ same_code (meaning_of p kind) m eq) in
           sized m (is_short (drop at s)) (at + n - (at + a))
           ((λ j. format_fits (k j) (is_short (drop at s)) (sym value-length j)) ∙ head.formed) short-value
 
--- what the attribute met says of the value that `attribute_value` hands on
-module _ (m : Meaning) (p : Place) (s : List ℕ) (from b e : ℕ) (f : MetAt m p s from b e) where
-  pub met-size : value_size m (length (value_at (drop b s))) ≡ true
-  met-size =
-      ap (λ (l : List ℕ). value_size m (length l)) f.octets
-      ∙ ap (value_size m) (part_length s (value_start s b) e f.value.order f.value.inside) ∙ f.value.size
+      -- the attribute that stands here, where none from `from` to here means `m`: it is the first, or it is passed like those before it
+      module _ (from : ℕ) (l : from ≤ at) (v : values_in m p (drop from s) ≡ values_in m p (drop at s))
+          (q : places_in m p s from ≡ places_in m p s at) where
+        pub met : code_of (meaning_of p kind) ≡ code_of m → MetAt m p s from at (at + n)
+        met k = record {
+          value =
+              subst (λ (x : ℕ). ValueFoundAt m p s from x (at + n)) value-start
+              (record {
+                first = v ∙ hit k;
+                place = q ∙ hit-place k;
+                start = omega (arith, l, starts-after);
+                order = omega (arith, next-inside.2);
+                inside = next-inside.1;
+                size = size k;
+                rest = next-whole;
+              });
+          octets = value-octets ∙ ap (λ (x : ℕ). part s x (at + n)) value-start;
+        }
 
-  -- it is the first, and stands where the first does
-  pub met-first : value_at (drop b s) ≡ first_value m p s from
-  met-first = f.octets ∙ sym (ap (λ (l : List (List ℕ)). get_or l 0 []) f.value.first)
-
-  pub met-place : value_start s b ≡ first_start m p s from
-  met-place = sym (ap (λ (l : List Stretch). (get_or l 0 nowhere).start) f.value.place)
-
-pub none_first : (m : Meaning) (p : Place) (s : List ℕ) (from : ℕ) → values_in m p (drop from s) ≡ [] → [] ≡ first_value m p s from
-none_first m p s from e = sym (ap (λ (l : List (List ℕ)). get_or l 0 []) e)
-
-pub none-start : (m : Meaning) (p : Place) (s : List ℕ) (from : ℕ) → places_in m p s from ≡ [] → 0 ≡ first_start m p s from
-none-start m p s from e = sym (ap (λ (l : List Stretch). (get_or l 0 nowhere).start) e)
+        pub passed : (code_of (meaning_of p kind) ≡ code_of m → ⊥)
+            → (from ≤ at + n) × (at + n ≤ length s) × (is_whole (attributes p 0 (drop (at + n) s)) ≡ true)
+            × (values_in m p (drop from s) ≡ values_in m p (drop (at + n) s)) × (places_in m p s from ≡ places_in m p s (at + n))
+        passed k = (
+          omega (arith, l),
+          next-inside.1,
+          next-whole,
+          v ∙ miss k,
+          q ∙ miss-place k,
+        )
 
 -- the same list at any offset
 pub any-offset : (p : Place) (b c : ℕ) (s : List ℕ) (l : List Attribute) (rest : List ℕ) → attributes p b s ≡ whole l rest

@@ -3,18 +3,13 @@ ghost use Rattle.std.specs.Prelude.{◌≡◌, true, ◌+◌, ◌≤◌, ◌<◌
 ghost use Rattle.wire_attributes.specs.Layout.{attributes};
 ghost use Rattle.wire_readers.specs.inner.Values.{is_whole, values_in, FindsValue, first_value, first_start, value_size};
 
+use crate::Stretch;
 use wire_attributes::Read;
 use wire_attributes::tables::{Meaning, Place};
 
-// Where an attribute starts and where it ends; or that there is none.
-#[derive(Clone, Copy)]
-pub enum ValueFound {
-    At(usize, usize),
-    Nothing,
-}
-
-// Finds the first attribute of `s` from index `from` on that means `m` in `place`. `wire_attributes::attribute_value` takes its start.
-pub fn next_attribute(m: Meaning, place: Place, s: &[u8], from: usize) -> ValueFound
+// Finds the first attribute of `s` from index `from` on that means `m` in `place`, and answers where it stands.
+// `wire_attributes::attribute_value` takes its start.
+pub fn next_attribute(m: Meaning, place: Place, s: &[u8], from: usize) -> Option<Stretch>
     requires { (from ≤ length s.now) × (is_whole (attributes place 0 (drop from s.now)) ≡ true) }
     ensures { FindsValue m place s.now from result }
 {
@@ -32,16 +27,19 @@ pub fn next_attribute(m: Meaning, place: Place, s: &[u8], from: usize) -> ValueF
                 if wire_attributes::tables::code(wire_attributes::tables::meaning_in(place, kind))
                     == wanted
                 {
-                    return ValueFound::At(at, next);
+                    return Some(Stretch {
+                        start: at,
+                        end: next,
+                    });
                 }
                 at = next;
             }
             Read::Cut => {
-                return ValueFound::Nothing;
+                return None;
             }
         }
     }
-    ValueFound::Nothing
+    None
 }
 
 // Answers the value of the first attribute of `s` from index `from` on that means `m` in `place`, as a slice of `s`; empty if there is
@@ -52,8 +50,8 @@ pub fn value_of(m: Meaning, place: Place, s: &[u8], from: usize) -> &[u8]
     ensures ref_ptr_value { result.ref_ptr ≡ (s.entry.ref_ptr.0, first_start m place s.now from + s.entry.ref_ptr.1) }
 {
     match next_attribute(m, place, s, from) {
-        ValueFound::At(at, _) => wire_attributes::attribute_value(s, at),
-        ValueFound::Nothing => &s[0..0],
+        Some(a) => wire_attributes::attribute_value(s, a.start),
+        None => &s[0..0],
     }
 }
 
@@ -64,15 +62,9 @@ pub fn count_of(m: Meaning, place: Place, s: &[u8]) -> usize
 {
     let mut n = 0;
     let mut at = 0;
-    loop {
-        match next_attribute(m, place, s, at) {
-            ValueFound::At(_, e) => {
-                n = n + 1;
-                at = e;
-            }
-            ValueFound::Nothing => {
-                return n;
-            }
-        }
+    while let Some(a) = next_attribute(m, place, s, at) {
+        n += 1;
+        at = a.end;
     }
+    n
 }

@@ -1,5 +1,5 @@
 -- What the readers answer on attributes whose layout is whole: their values, and where a value stands.
-use Rattle.std.specs.Prelude.{ℕ, ◌+◌, ◌-◌, ◌<◌, ◌≤◌, ◌≡◌, List, [], ◌∷◌, Bool, true, false, cond, eqb, length, drop, get_or}
+use Rattle.std.specs.Prelude.{ℕ, ◌+◌, ◌-◌, ◌<◌, ◌≤◌, ◌≡◌, List, [], ◌∷◌, Bool, true, false, cond, eqb, length, drop, get_or, Option, Some, None}
 use Rattle.octets.specs.Walk.{part, Reading, whole, broken}
 use Rattle.wire_attributes.specs.Attribute.{Attribute, lead_of, span_of}
 use Rattle.wire_attributes.specs.Answers.{value_at, value_start}
@@ -10,8 +10,6 @@ use Rattle.wire_attributes.specs.declared.tables.Place.{Place}
 use Rattle.wire_attributes.specs.declared.tables.Meaning.{Meaning}
 use Rattle.wire_attributes.specs.declared.tables.Meaning.TheVariants as meaning
 use Rattle.wire_readers.specs.declared.Stretch.{Stretch}
-use Rattle.wire_readers.specs.declared.values.ValueFound.{ValueFound}
-use Rattle.wire_readers.specs.declared.values.ValueFound.TheVariants as found
 
 abbrev pub is_whole : {A : Type 0} → Reading A → Bool
 is_whole (whole a rest) = true
@@ -73,9 +71,9 @@ pub record MetAt (m : Meaning) (p : Place) (s : List ℕ) (from b e : ℕ) : Typ
   pub value : ValueFoundAt m p s from (value_start s b) e
   pub octets : value_at (drop b s) ≡ part s (value_start s b) e
 
-abbrev pub FindsValue : Meaning → Place → List ℕ → ℕ → ValueFound → Type 0
-FindsValue m p s from (found.At b e) = MetAt m p s from b e
-FindsValue m p s from found.Nothing = (values_in m p (drop from s) ≡ []) × (places_in m p s from ≡ [])
+abbrev pub FindsValue : Meaning → Place → List ℕ → ℕ → Option Stretch → Type 0
+FindsValue m p s from (Some x) = MetAt m p s from x.start x.end
+FindsValue m p s from None = (values_in m p (drop from s) ≡ []) × (places_in m p s from ≡ [])
 
 -- the first such value from the index `from` on, and where it starts; empty, and 0, where there is none
 abbrev pub first_value : Meaning → Place → List ℕ → ℕ → List ℕ
