@@ -22,8 +22,5 @@ pub struct Stretch {
 pub fn one_if(b: bool) -> usize
     ensures { result ≡ once b }
 {
-    if b {
-        return 1;
-    }
-    0
+    usize::from(b)
 }
