@@ -4,7 +4,7 @@ use Prim.Native.Nat.{ℕ, zero, suc, ◌+◌, ◌-◌, ◌≤◌, ◌<◌}
 use mathlib.Core.Path.{◌≡◌, refl, ap, ap₂, sym, subst, ◌∙◌}
 use mathlib.Core.List.{List, [], ◌∷◌, ◌++◌, map, flat_map, append_assoc}
 use lib.ListN.{length, take, drop, replicate, length-map, length-take}
-use lib.Seq.{length-take-le, take-add, drop-drop, take-take}
+use lib.Seq.{length-take-le, take-add, drop-drop}
 use borrow.Author.Tests.{leb-true, le-leb}
 use Rattle.ikev2_numbers.specs.Codes.{header_octets, most_octets}
 use Rattle.lists.specs.Lists.{any, insert}
@@ -123,7 +123,7 @@ module _ (c : Collection) (f : Names) (long : LongCollection c) (g : 1 ≤ f.tot
     pub few : n < most_fragments
     few = started.few
 
-    count-is : length taken ≡ n
+    pub count-is : length taken ≡ n
     count-is = let a = few in let b = long.pieces-size in length-take-le n c.pieces (omega arith)
 
     -- the pieces' octets and the new ones are within the frame
@@ -145,20 +145,20 @@ module _ (c : Collection) (f : Names) (long : LongCollection c) (g : 1 ≤ f.tot
     pub size_is : (o : ℕ) → FrameCounted taken o → o ≡ header_octets + size_of_all taken
     size_is o h = let a = small in counted_is taken o h (omega arith)
 
-    pub before-is : (a : ℕ) → a ≡ ahead_of f.number taken → a ≤ n → (o : ℕ) → FrameCounted (take a c.pieces) o →
+    pub before-is : (a : ℕ) → a ≡ ahead_of f.number taken → (o : ℕ) → FrameCounted (take a taken) o →
         o ≡ header_octets + size_of_all ahead
-    before-is a e le o h =
-        let x : take a c.pieces ≡ ahead = sym (take-take a n c.pieces le) ∙ ap (λ (k : ℕ). take k taken) e in
+    before-is a e o h =
+        let x : take a taken ≡ ahead = ap (λ (k : ℕ). take k taken) e in
         let b = small in
         let d = ahead_small in
         counted_is ahead o (subst (λ (l : List Piece). FrameCounted l o) x h) (omega arith)
 
-    pub joins : (a : ℕ) → a ≡ ahead_of f.number taken → a ≤ n → (o : ℕ) → FrameCounted (take a c.pieces) o → (m : ℕ) →
+    pub joins : (a : ℕ) → a ≡ ahead_of f.number taken → (o : ℕ) → FrameCounted (take a taken) o → (m : ℕ) →
         FrameCounted taken m → (blank : List ℕ) → length blank ≡ most_octets →
         ((o - header_octets ≤ m - header_octets) × (m - header_octets ≤ length c.octets)) ×
         (m - header_octets + length piece ≤ length blank)
-    joins a e le o h m k blank lb =
-        let x = before-is a e le o h in
+    joins a e o h m k blank lb =
+        let x = before-is a e o h in
         let y = size_is m k in
         let z = ahead_small in
         let w = small in

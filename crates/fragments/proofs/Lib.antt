@@ -6,7 +6,6 @@ pub mod AnyOrderPieces
 pub mod AnyOrderLaws
 pub mod AnyOrderSteps
 pub mod CountLaws
-pub mod FitTests
 pub mod PlaceLaws
 pub mod JoinLaws
 pub mod HeaderLaws

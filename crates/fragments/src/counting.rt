@@ -1,5 +1,5 @@
 // Walks over the kept pieces of a collection.
-ghost use Rattle.std.specs.Prelude.{◌≡◌, ◌||◌, ◌++◌, ◌-◌, ◌≤◌, ◌<◌, length, take, replicate};
+ghost use Rattle.std.specs.Prelude.{◌≡◌, ◌++◌, ◌-◌, ◌≤◌, ◌<◌, length, replicate};
 ghost use Rattle.lists.specs.Lists.{all, rising, insert};
 ghost use Rattle.fragments.specs.Collection.{most_fragments, blank_piece, piece_before, numbered};
 ghost use Rattle.fragments.specs.inner.Counting.{has_number, FrameCounted, ahead_of};
@@ -11,134 +11,63 @@ use ikev2_numbers::{HEADER, MOST_OCTETS};
 fn is_numbered(p: Piece, total: usize) -> bool
     ensures { result ≡ numbered total p }
 {
-    if 1 <= p.number {
-        return p.number <= total;
-    }
-    false
+    1 <= p.number && p.number <= total
 }
 
-// Whether each of the first `n` pieces has a number from 1 to `total`.
-pub(crate) fn are_numbered(pieces: [Piece; MOST_FRAGMENTS], n: usize, total: usize) -> bool
-    requires { n ≤ most_fragments }
-    ensures { result ≡ all (numbered total) (take n pieces) }
+// Whether each of the pieces has a number from 1 to `total`.
+pub(crate) fn are_numbered(pieces: &[Piece], total: usize) -> bool
+    ensures { result ≡ all (numbered total) pieces.now }
 {
-    let mut i: usize = 0;
-    while i < n {
-        let p = pieces[i];
-        if is_numbered(p, total) {} else {
-            return false;
-        }
-        i += 1;
-    }
-    true
+    pieces.iter().all(|p| is_numbered(*p, total))
 }
 
-// Whether the numbers of the first `n` pieces rise.
-pub(crate) fn are_rising(pieces: [Piece; MOST_FRAGMENTS], n: usize) -> bool
-    requires { n ≤ most_fragments }
-    ensures { result ≡ rising piece_before (take n pieces) }
+// Whether the numbers of the pieces rise.
+pub(crate) fn are_rising(pieces: &[Piece]) -> bool
+    ensures { result ≡ rising piece_before pieces.now }
 {
-    let mut i: usize = 0;
-    let mut j: usize = 1;
-    while j < n {
-        let p = pieces[i];
-        let q = pieces[j];
-        if p.number < q.number {} else {
-            return false;
-        }
-        i = j;
-        j += 1;
-    }
-    true
+    pieces.is_sorted_by(|p, q| p.number < q.number)
 }
 
-// Whether one of the first `n` pieces has this `number`.
-pub(crate) fn has_number(pieces: [Piece; MOST_FRAGMENTS], n: usize, number: usize) -> bool
-    requires { n ≤ most_fragments }
-    ensures { result ≡ has_number number (take n pieces) }
+// Whether one of the pieces has this `number`.
+pub(crate) fn has_number(pieces: &[Piece], number: usize) -> bool
+    ensures { result ≡ has_number number pieces.now }
 {
-    let mut i: usize = 0;
-    while i < n {
-        let p = pieces[i];
-        if p.number == number {
-            return true;
-        }
-        i += 1;
-    }
-    false
+    pieces.iter().any(|p| p.number == number)
 }
 
-// Counts the octets of the frame that the first `n` pieces make. Where they are too many, the answer is one more than a frame may have,
-// since the sizes of a handed-in collection may be any.
-pub(crate) fn frame_octets(pieces: [Piece; MOST_FRAGMENTS], n: usize) -> usize
-    requires { n ≤ most_fragments }
-    ensures { FrameCounted (take n pieces) result }
+// Counts the octets of the frame that the pieces make. Where they are too many, the answer is one more than a frame may have, since the
+// sizes of a handed-in collection may be any.
+pub(crate) fn frame_octets(pieces: &[Piece]) -> usize
+    ensures { FrameCounted pieces.now result }
 {
     let mut octets: usize = HEADER;
-    let mut i: usize = 0;
-    while i < n {
-        let p = pieces[i];
+    for p in pieces {
         if MOST_OCTETS - octets < p.size {
             return MOST_OCTETS + 1;
         }
         octets += p.size;
-        i += 1;
     }
     octets
 }
 
 // Counts the pieces that stand ahead of a fragment with this `number`.
-pub(crate) fn pieces_ahead(pieces: [Piece; MOST_FRAGMENTS], n: usize, number: usize) -> usize
-    requires { n ≤ most_fragments }
-    ensures { (result ≡ ahead_of number (take n pieces)) × (result ≤ n) }
+pub(crate) fn pieces_ahead(pieces: &[Piece], number: usize) -> usize
+    ensures { (result ≡ ahead_of number pieces.now) × (result ≤ length pieces.now) }
 {
-    let mut i: usize = 0;
-    while i < n {
-        let p = pieces[i];
-        if number < p.number {
-            return i;
-        }
-        i += 1;
-    }
-    n
+    pieces.iter().take_while(|p| p.number <= number).count()
 }
 
-// Whether `a` goes ahead of `p` while a piece is inserted. `placed` says that the inserted piece has its place already: from there on all
-// pieces move back by one, and `a` is the one that has to move. Before that, `a` is the inserted piece, and the numbers decide.
-fn goes_ahead(placed: bool, a: Piece, p: Piece) -> bool
-    ensures { result ≡ (placed || piece_before a p) }
+// Inserts the piece `a` in its place among the pieces.
+pub(crate) fn with_piece(pieces: &[Piece], a: Piece) -> [Piece; MOST_FRAGMENTS]
+    requires { length pieces.now < most_fragments }
+    ensures { result ≡ insert piece_before a pieces.now
+        ++ replicate (most_fragments - length (insert piece_before a pieces.now)) blank_piece }
 {
-    if placed {
-        return true;
-    }
-    a.number < p.number
-}
-
-// Inserts the piece `a` in its place among the first `n`.
-pub(crate) fn with_piece(
-    pieces: [Piece; MOST_FRAGMENTS],
-    n: usize,
-    a: Piece,
-) -> [Piece; MOST_FRAGMENTS]
-    requires { n < most_fragments }
-    ensures { result ≡ insert piece_before a (take n pieces)
-        ++ replicate (most_fragments - length (insert piece_before a (take n pieces))) blank_piece }
-{
+    let n = pieces.len();
+    let ahead = pieces_ahead(pieces, a.number);
     let mut out = [Piece { number: 0, size: 0 }; MOST_FRAGMENTS];
-    let mut carried = a;
-    let mut placed = false;
-    let mut i: usize = 0;
-    while i < n {
-        let p = pieces[i];
-        if goes_ahead(placed, carried, p) {
-            out[i] = carried;
-            carried = p;
-            placed = true;
-        } else {
-            out[i] = p;
-        }
-        i += 1;
-    }
-    out[i] = carried;
+    out[..ahead].copy_from_slice(&pieces[..ahead]);
+    out[ahead] = a;
+    out[ahead + 1..n + 1].copy_from_slice(&pieces[ahead..]);
     out
 }

@@ -21,15 +21,6 @@ fn join(octets: &[u8], size: usize, before: usize, piece: &[u8], out: &mut [u8])
     octets::copying::copy(&octets[before..size], &mut out[end..]);
 }
 
-// Does the same to the array of a collection, in its place.
-fn join_within(octets: &[u8], size: usize, before: usize, piece: &[u8], out: &mut [u8; MOST_OCTETS])
-    requires before_le_size { (before ≤ size) × (size ≤ length octets.now) }
-    requires piece_in_bounds { size + length piece.now ≤ length out.old }
-    ensures { out.new ≡ joined_octets octets.now size before piece.now out.old }
-{
-    join(octets, size, before, piece, out);
-}
-
 impl Collection {
     // Gives the names of a fragment the version, flags and next payload of fragment 1, be it this one or among the first `n` pieces; 0
     // where it is missing.
@@ -41,17 +32,21 @@ impl Collection {
             return f;
         }
         let pieces = self.pieces;
-        let mut named = f;
-        if has_number(pieces, n, 1) {
-            named.version = self.version;
-            named.flags = self.flags;
-            named.next = self.next;
-            return named;
+        if has_number(&pieces[..n], 1) {
+            Names {
+                version: self.version,
+                flags: self.flags,
+                next: self.next,
+                ..f
+            }
+        } else {
+            Names {
+                version: 0,
+                flags: 0,
+                next: 0,
+                ..f
+            }
         }
-        named.version = 0;
-        named.flags = 0;
-        named.next = 0;
-        named
     }
 
     // Puts a fragment with this `piece` to the first `n` pieces, as `place` told.
@@ -60,15 +55,16 @@ impl Collection {
         requires taking { Taking (counted self) f piece.now n }
         ensures { result ≡ collection_of (gathered (counted self) f piece.now) }
     {
-        let kept = self.pieces;
-        let ahead = pieces_ahead(kept, n, f.number);
-        let before = frame_octets(kept, ahead) - HEADER;
-        let size = frame_octets(kept, n) - HEADER;
+        let all = self.pieces;
+        let kept = &all[..n];
+        let ahead = pieces_ahead(kept, f.number);
+        let before = frame_octets(&kept[..ahead]) - HEADER;
+        let size = frame_octets(kept) - HEADER;
         let a = Piece {
             number: f.number,
             size: piece.len(),
         };
-        let pieces = with_piece(kept, n, a);
+        let pieces = with_piece(kept, a);
         let named = self.lead(n, f);
         let spis = f.spis;
         let mut next = Collection {
@@ -82,7 +78,7 @@ impl Collection {
             next: named.next,
             octets: [0u8; MOST_OCTETS],
         };
-        join_within(&self.octets, size, before, piece, &mut next.octets);
+        join(&self.octets, size, before, piece, &mut next.octets);
         next
     }
 }

@@ -48,6 +48,7 @@ pub enum Case {
 
 // What becomes of a fragment by its names and by how many octets were sealed in it: it is passed over, the frame would have too many
 // octets, or it is put to so many of the kept pieces: to none, where the collection starts anew.
+// Kept as an enum: none of the three is a value beside a fault, so `Result<Option<usize>, _>` would hide two of the names.
 #[derive(Clone, Copy)]
 pub enum Placed {
     Passed,

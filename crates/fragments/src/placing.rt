@@ -1,35 +1,25 @@
 // What becomes of a fragment: its case, and whether the frame would have too many octets. No octet of a piece is looked at.
-ghost use Rattle.std.specs.Prelude.{◌≡◌, cond, ◌&&◌, List, ℕ, ◌+◌, ◌≤◌, ltb, eqb, length, take};
+ghost use Rattle.std.specs.Prelude.{◌≡◌, cond, ◌&&◌, List, ℕ, ◌+◌, ◌≤◌, ltb, eqb, length};
 ghost use Rattle.ikev2_numbers.specs.Codes.{most_octets};
 ghost use Rattle.octets.specs.Compare.{same as sameRuns};
 ghost use Rattle.fragments.specs.declared.Placed.TheVariants.{TooLong, Taken};
-ghost use Rattle.fragments.specs.Collection.{most_fragments, counted};
+ghost use Rattle.fragments.specs.Collection.{counted};
 ghost use Rattle.fragments.specs.Gathering.{case_of};
 ghost use Rattle.fragments.specs.inner.Places.{case_within, PlaceSays};
 
 use crate::counting::{frame_octets, has_number};
-use crate::{Case, Collection, MOST_FRAGMENTS, Names, Piece, Placed};
+use crate::{Case, Collection, Names, Piece, Placed};
 use ikev2_numbers::{HEADER, MOST_OCTETS};
 use octets::compare::same;
 
-// Tells the case of a fragment of the same rekey, which has this `number` and `total`: the collection has the total `own` and `n` pieces.
-fn case_within(
-    pieces: [Piece; MOST_FRAGMENTS],
-    n: usize,
-    own: usize,
-    number: usize,
-    total: usize,
-) -> Case
-    requires { n ≤ most_fragments }
-    ensures { result ≡ case_within (take n pieces) own number total }
+// Tells the case of a fragment of the same rekey, which has this `number` and `total`: the collection has the total `own` and these pieces.
+fn case_within(pieces: &[Piece], own: usize, number: usize, total: usize) -> Case
+    ensures { result ≡ case_within pieces.now own number total }
 {
     if own < total {
         return Case::Anew;
     }
-    if total < own {
-        return Case::PassedOver;
-    }
-    if has_number(pieces, n, number) {
+    if total < own || has_number(pieces, number) {
         return Case::PassedOver;
     }
     Case::Kept
@@ -53,10 +43,7 @@ impl Collection {
     {
         let own = self.spis;
         let its = f.spis;
-        if same(&own, &its) {
-            return self.id == f.id;
-        }
-        false
+        same(&own, &its) && self.id == f.id
     }
 
     // Tells the fragment's case by its names.
@@ -64,11 +51,10 @@ impl Collection {
         requires { 1 ≤ f.total }
         ensures { result ≡ case_of (counted self) f }
     {
-        if self.is_fit() {
-            if self.is_of_rekey(f) {
-                let pieces = self.pieces;
-                return case_within(pieces, self.count, self.total, f.number, f.total);
-            }
+        if self.is_fit() && self.is_of_rekey(f) {
+            let pieces = self.pieces;
+            let n = self.count;
+            return case_within(&pieces[..n], self.total, f.number, f.total);
         }
         Case::Anew
     }
@@ -85,7 +71,7 @@ impl Collection {
             Case::Kept => {
                 let pieces = self.pieces;
                 let n = self.count;
-                let octets = frame_octets(pieces, n);
+                let octets = frame_octets(&pieces[..n]);
                 by_size(octets, size, n)
             }
         }

@@ -81,7 +81,8 @@ impl Collection {
         ensures { (w : Waiting) → self ≡ collection_of w → WholeWritten w room.old result room.new }
     {
         let pieces = self.pieces;
-        let size = frame_octets(pieces, self.count);
+        let n = self.count;
+        let size = frame_octets(&pieces[..n]);
         let h = self.make_header(size);
         put_frame(&h, &self.octets, size, room);
         size

@@ -1,4 +1,5 @@
 pub mod Cases
+pub mod Chains
 pub mod Parts
 pub mod Lists
 pub mod Fill

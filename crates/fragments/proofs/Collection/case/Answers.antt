@@ -1,16 +1,22 @@
 use native.Mathlib.Omega.{arith}
 use mathlib.Core.Path.{sym, ◌∙◌}
+use Rattle.std.proofs.lemmas.List.{length-take-le}
 use Rattle.fragments.proofs.FitLaws.{fit_is}
 use Rattle.fragments.proofs.PlaceLaws.{case_same, case-other, case-unfit}
 use Rattle.fragments.proofs.Collection.case.Goals as goal
+use Rattle.fragments.proofs.Collection.case.Goals.{else-is_fit-via-then-is_fit+else-is_of_rekey, else-is_fit-via-else-is_fit}
 
-pub case_within-requires : goal.case_within-requires
-case_within-requires c =
-    let s = c.args.self in
-    let p = fit_is s (sym c.is_fit.ensures ∙ c.if-is_fit.true) in
-    let m = p.some-lacks in
-    let k = p.total-most in
-    omega arith
+pub slice_bounds-pieces-end : goal.slice_bounds-pieces-end
+slice_bounds-pieces-end c =
+    let a = c.args.self in
+    let f = fit_is a (sym c.is_fit.ensures ∙ c.if-is_fit.true) in
+    omega (arith, f.some-lacks, f.total-most)
+
+pub slice_bounds-case_within-end : goal.slice_bounds-case_within-end
+slice_bounds-case_within-end c =
+    let a = c.args.self in
+    let f = fit_is a (sym c.is_fit.ensures ∙ c.if-is_fit.true) in
+    sym (length-take-le a.count a.pieces (omega (arith, f.some-lacks, f.total-most)))
 
 pub returns-then-is_of_rekey : goal.returns-then-is_of_rekey
 returns-then-is_of_rekey c =
@@ -18,12 +24,11 @@ returns-then-is_of_rekey c =
     c.case_within.ensures
     ∙ case_same a.self a.f (sym c.if-is_fit.true ∙ c.is_fit.ensures) (sym c.if-is_of_rekey.true ∙ c.is_of_rekey.ensures)
 
-pub returns-else-is_of_rekey : goal.returns-else-is_of_rekey
-returns-else-is_of_rekey c =
+pub returns : goal.returns
+returns c =
     let a = c.args in
-    case-other a.self a.f (sym c.if-is_fit.true ∙ c.is_fit.ensures) (sym c.if-is_of_rekey.false ∙ c.is_of_rekey.ensures)
-
-pub returns-else-is_fit : goal.returns-else-is_fit
-returns-else-is_fit c =
-    let a = c.args in
-    case-unfit a.self a.f c.requires (sym c.if-is_fit.false ∙ c.is_fit.ensures)
+    elim c.else-is_fit.branch [
+      else-is_fit-via-then-is_fit+else-is_of_rekey w ↦
+        case-other a.self a.f (sym w.if-is_fit.true ∙ c.is_fit.ensures) (sym w.if-is_of_rekey.false ∙ w.is_of_rekey.ensures)
+    | else-is_fit-via-else-is_fit w ↦ case-unfit a.self a.f c.requires (sym w.if-is_fit.false ∙ c.is_fit.ensures)
+    ]

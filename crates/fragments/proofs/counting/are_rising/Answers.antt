@@ -1,26 +1,10 @@
-use native.Mathlib.Omega.{arith}
-use mathlib.Core.Path.{refl, sym, ◌∙◌}
-use Rattle.fragments.proofs.CountLaws.{numbers-rise, numbers-stop, numbers-end}
+use Rattle.std.proofs.Common.{rules}
+use Rattle.std.proofs.lemmas.List.Sorted.{answers_always}
+use Rattle.fragments.specs.Collection.{piece_before}
+use Rattle.lists.proofs.Chains.{rising-from_answer}
 use Rattle.fragments.proofs.counting.are_rising.Goals as goal
-
-pub returns-else-p-q : goal.returns-else-p-q
-returns-else-p-q c =
-    let l = c.loop-j in
-    let a = c.args in
-    sym (l.invariant.3 ∙ numbers-stop a.pieces a.n (omega arith) l.i l.j l.invariant.2 _ (omega arith) c.if-p-q.false)
-
-pub loop-j-preserved : goal.loop-j-preserved
-loop-j-preserved c =
-    let l = c.loop-j in
-    let a = c.args in (
-      l.invariant.0,
-      l.invariant.1,
-      refl,
-      l.invariant.3 ∙ numbers-rise a.pieces a.n (omega arith) l.i l.j l.invariant.2 _ (omega arith) c.if-p-q.true,
-    )
 
 pub returns : goal.returns
 returns c =
-    let l = c.loop-j in
-    let a = c.args in
-    sym (l.invariant.3 ∙ numbers-end a.pieces a.n (omega arith) l.i l.j l.invariant.2 (omega arith))
+    rising-from_answer piece_before c.args.pieces.now c.is_sorted_by.result
+        (c.is_sorted_by.ensures.cases piece_before (answers_always _ _ _ (λ f a r g h. search rules)))

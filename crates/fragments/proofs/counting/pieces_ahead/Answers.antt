@@ -1,27 +1,16 @@
-use native.Mathlib.Omega.{arith}
-use Rattle.fragments.proofs.CountLaws.{ahead-here, ahead-next, ahead-end}
+use Rattle.std.proofs.Common.{rules, tests, leb}
+use Rattle.std.proofs.lemmas.Iterator.{YieldsList-from_slice}
+use Rattle.std.proofs.lemmas.Iterator.Consumers.{count_from_yields_List}
+use Rattle.std.proofs.lemmas.Iterator.Search.{YieldsList-from_take_while}
+use Rattle.fragments.specs.declared.Piece.{Piece}
+use Rattle.fragments.proofs.CountLaws.{ahead-count}
 use Rattle.fragments.proofs.counting.pieces_ahead.Goals as goal
-
-pub returns-then-number-p : goal.returns-then-number-p
-returns-then-number-p c =
-    let l = c.loop-i in
-    let a = c.args in
-    let e = ahead-here a.pieces a.n (omega arith) l.i a.number _ (omega arith) c.if-number-p.true in
-    let v = l.invariant.3 in
-    (omega arith, omega arith)
-
-pub loop-i-preserved : goal.loop-i-preserved
-loop-i-preserved c =
-    let l = c.loop-i in
-    let a = c.args in
-    let e = ahead-next a.pieces a.n (omega arith) l.i a.number _ (omega arith) c.if-number-p.false in
-    let v = l.invariant.3 in
-    (l.invariant.0, l.invariant.1, omega arith, omega arith)
 
 pub returns : goal.returns
 returns c =
-    let l = c.loop-i in
-    let a = c.args in
-    let e = ahead-end a.pieces a.n (omega arith) l.i a.number (omega arith) in
-    let v = l.invariant.3 in
-    (omega arith, omega arith)
+    let l = c.args.pieces.now in
+    let test = λ (p : Piece). leb p.number c.args.number in
+    ahead-count c.args.number l c.count.result
+        (count_from_yields_List _ _ c.count.ensures.ran
+            (YieldsList-from_take_while _ test (YieldsList-from_slice l cc) c.take_while.ensures.closure c.take_while.ensures.done
+                (λ x b q k. search (rules, tests))))
