@@ -1,34 +1,27 @@
-// Puts IP addresses.
-use text_faults::places::{be16_or_0, octet};
+// Shows IP addresses.
+use std::fmt;
+use text_faults::places::be16_or_0;
 
-// Puts an address: 4 octets in decimal with dots, others as the groups of an IPv6 address.
-pub(crate) fn address(rt: &impl Print, out: &mut [u8], n: usize, octets: &[u8]) -> usize {
-    if octets.len() == 4 {
-        let a = text_names::say(rt, out, n, b"%.%.", octet(octets, 0), octet(octets, 1), 0);
-        return text_names::say(rt, out, a, b"%.%", octet(octets, 2), octet(octets, 3), 0);
-    }
-    groups(rt, out, n, octets)
-}
+// An address: 4 octets are shown in decimal with dots, others as the groups of an IPv6 address.
+#[derive(Clone, Copy)]
+pub(crate) struct Address<'a>(pub(crate) &'a [u8]);
 
-fn groups(rt: &impl Print, out: &mut [u8], n: usize, octets: &[u8]) -> usize {
-    let mut m = n;
-    let mut i = 0;
-    while i < octets.len() {
-        m = group(rt, out, m, octets, i);
-        if octets.len() - i < 2 {
-            return m;
+impl<'a> fmt::Display for Address<'a> {
+    fn fmt<W: fmt::Write>(&self, f: &mut fmt::Formatter<W>) -> fmt::Result {
+        if let [a, b, c, d] = self.0 {
+            return write!(f, "{a}.{b}.{c}.{d}");
         }
-        i += 2;
+        put_groups(f, self.0)
     }
-    m
 }
 
-// Puts the two octets at `at` of an IPv6 address as one number, behind a colon if it is not the first.
-fn group(rt: &impl Print, out: &mut [u8], n: usize, octets: &[u8], at: usize) -> usize {
-    let x = be16_or_0(octets, at) as u64;
-    if at == 0 {
-        return text_names::hexadecimal(rt, out, n, x, 1);
+// Puts each two octets of an IPv6 address as one number, with colons between the numbers.
+fn put_groups<W: fmt::Write>(f: &mut fmt::Formatter<W>, octets: &[u8]) -> fmt::Result {
+    for group in 0..octets.len().div_ceil(2) {
+        if 0 < group {
+            write!(f, ":")?;
+        }
+        write!(f, "{:x}", be16_or_0(octets, 2 * group))?;
     }
-    let a = text_names::put(rt, out, n, 58);
-    text_names::hexadecimal(rt, out, a, x, 1)
+    Ok(())
 }

@@ -1,115 +1,83 @@
 // Shows attributes, by the place where they stand.
-use crate::line::{INMOST, INNER};
-use text_faults::places::{attribute_end, be16_or_0, be32_or_0, holds, part, span};
+use crate::frame::Shown;
+use crate::line::{INMOST, INNER, put_head};
+use ikev2_numbers::{KEY_LENGTH, SA_KEY};
+use std::fmt;
+use std::fmt::Write;
+use text_faults::places::{attribute_end, be16_or_0, be32_or_0};
+use text_names::{Hex, tables};
 use wire_attributes::Read;
-use wire_attributes::tables::Place;
+use wire_attributes::tables::{Meaning, Place, meaning_in};
 
-// Puts the attributes from `from` to `to`, up to `stop`, and why the layout breaks if it does so among them.
-pub(crate) fn attributes(
-    rt: &impl Print,
-    out: &mut [u8],
-    n: usize,
+// Puts the attributes from `from` to `to`, up to the one that breaks the layout, and why it does.
+pub(crate) fn put_attributes(
+    w: &mut impl Write,
     place: Place,
-    s: &[u8],
+    f: Shown,
     from: usize,
     to: usize,
-    stop: usize,
-) -> usize {
-    let mut m = n;
+) -> fmt::Result {
     let mut at = from;
     while at < to {
-        let end = attribute_end(s, at, to);
-        m = attribute_at(rt, out, m, place, part(s, at, to), at, stop);
-        if holds(at, stop, end) {
-            return m;
+        let end = attribute_end(f.octets, at, to);
+        if f.breaks_at(at) {
+            return text_faults::of_attribute(w, place, f.part(at, to), at);
+        }
+        put_attribute_at(w, place, f.part(at, to), at)?;
+        if f.breaks_within(at, end) {
+            return Ok(());
         }
         at = end;
     }
-    m
+    Ok(())
 }
 
-// Puts the attribute that `s` starts with, or why it breaks. Its offset in the frame is `at`.
-fn attribute_at(
-    rt: &impl Print,
-    out: &mut [u8],
-    n: usize,
-    place: Place,
-    s: &[u8],
-    at: usize,
-    stop: usize,
-) -> usize {
-    if at == stop {
-        return text_faults::of_attribute(rt, out, n, place, s, stop);
-    }
+// Puts the attribute that `s` starts with. Its offset in the frame is `at`.
+fn put_attribute_at(w: &mut impl Write, place: Place, s: &[u8], at: usize) -> fmt::Result {
     match wire_attributes::read_attribute(s) {
-        Read::Attribute {
-            short: _,
-            kind,
-            start: _,
-            end,
-        } => attribute(
-            rt,
-            out,
-            n,
-            place,
-            at,
-            end,
-            kind,
-            wire_attributes::attribute_value(s, 0),
-        ),
-        Read::Cut => n,
+        Read::Attribute { kind, end, .. } => {
+            put_attribute(
+                w,
+                place,
+                at,
+                end,
+                kind,
+                wire_attributes::attribute_value(s, 0),
+            )
+        }
+        Read::Cut => Ok(()),
     }
 }
 
 // Answers how far an attribute in `place` is set in.
 fn indent(place: Place) -> usize {
     match place {
-        Place::EncryptionTransform => INMOST,
-        Place::OtherTransform => INMOST,
-        Place::RekeyPolicy => INNER,
-        Place::DataPolicy => INNER,
-        Place::GroupWidePolicy => INNER,
-        Place::RekeyBag => INNER,
-        Place::FreshRekeyBag => INNER,
-        Place::DataBag => INNER,
-        Place::MemberBag => INNER,
+        Place::EncryptionTransform | Place::OtherTransform => INMOST,
+        _ => INNER,
     }
 }
 
 // Puts an attribute: its name, what is shown of its value, and whether a member passes over it.
-pub(crate) fn attribute(
-    rt: &impl Print,
-    out: &mut [u8],
-    n: usize,
+pub(crate) fn put_attribute(
+    w: &mut impl Write,
     place: Place,
     at: usize,
     len: usize,
     kind: usize,
     value: &[u8],
-) -> usize {
-    let a = crate::line::head(rt, out, n, indent(place), at, len);
-    let b = text_names::titled(
-        rt,
-        out,
-        a,
-        b"",
-        text_names::tables::attribute(place, kind),
-        kind,
-    );
-    let c = shown(rt, out, b, shape_of(place, kind), value);
-    skipped(rt, out, c, place, kind)
-}
-
-fn skipped(rt: &impl Print, out: &mut [u8], n: usize, place: Place, kind: usize) -> usize {
-    if wire_attributes::tables::code(wire_attributes::tables::meaning_in(place, kind)) == 0 {
-        return text_names::text(rt, out, n, b", skipped\n");
+) -> fmt::Result {
+    put_head(w, indent(place), at, len)?;
+    write!(w, "{} ({kind}): ", tables::attribute(place, kind))?;
+    put_value(w, shape_of(place, kind), value)?;
+    if matches!(meaning_in(place, kind), Meaning::Skipped) {
+        return writeln!(w, ", skipped");
     }
-    crate::line::ended(rt, out, n)
+    writeln!(w)
 }
 
 // What is shown of a value: a number of 2 or 4 octets, an SPI, the IDs of a wrapped key, or how many octets it has. Octets of keys, and
 // octets without a name in the papers, are only counted.
-#[derive(Drop)]
+#[derive(Clone, Copy)]
 enum Shape {
     Number,
     Spi,
@@ -117,103 +85,40 @@ enum Shape {
     Count,
 }
 
-// Answers what is shown of the attribute `kind` in `place`.
+// Answers what is shown of the attribute `kind` in `place`: in a transform Key Length, in a policy GSA_KEY_LIFETIME (1),
+// GSA_INITIAL_MESSAGE_ID (2) and GSA_NEXT_SPI (3), in a group-wide policy GWP_ATD (1), GWP_DTD (2) and GWP_SENDER_ID_BITS (3), and in a key
+// bag SA_KEY or WRAP_KEY (1 in their bags).
 fn shape_of(place: Place, kind: usize) -> Shape {
-    match place {
-        Place::EncryptionTransform => in_transform(kind),
-        Place::OtherTransform => in_transform(kind),
-        Place::RekeyPolicy => in_policy(kind),
-        Place::DataPolicy => in_policy(kind),
-        Place::GroupWidePolicy => in_wide_policy(kind),
-        Place::RekeyBag => in_bag(kind),
-        Place::FreshRekeyBag => in_bag(kind),
-        Place::DataBag => in_bag(kind),
-        Place::MemberBag => in_bag(kind),
-    }
-}
-
-// Answers the shape in a transform: Key Length (14) is a number.
-fn in_transform(kind: usize) -> Shape {
-    match kind {
-        14 => Shape::Number,
+    match (place, kind) {
+        (Place::EncryptionTransform | Place::OtherTransform, KEY_LENGTH) => Shape::Number,
+        (Place::RekeyPolicy | Place::DataPolicy, 1 | 2) => Shape::Number,
+        (Place::RekeyPolicy | Place::DataPolicy, 3) => Shape::Spi,
+        (Place::GroupWidePolicy, 1 | 2 | 3) => Shape::Number,
+        (Place::RekeyBag | Place::FreshRekeyBag | Place::DataBag | Place::MemberBag, SA_KEY) => {
+            Shape::Wrapped
+        }
         _ => Shape::Count,
     }
 }
 
-// Answers the shape in a policy: GSA_KEY_LIFETIME (1) and GSA_INITIAL_MESSAGE_ID (2) are numbers, GSA_NEXT_SPI (3) is an SPI.
-fn in_policy(kind: usize) -> Shape {
-    match kind {
-        1 => Shape::Number,
-        2 => Shape::Number,
-        3 => Shape::Spi,
-        _ => Shape::Count,
+// Puts what is shown of `value`. A number of another size than 2 or 4 octets, and an SPI of another size than 4 (AH, ESP) or 16 (a Rekey
+// SA), are counted.
+fn put_value(w: &mut impl Write, shape: Shape, value: &[u8]) -> fmt::Result {
+    let n = value.len();
+    match (shape, n) {
+        (Shape::Number, 2) => write!(w, "{}", be16_or_0(value, 0)),
+        (Shape::Number, 4) => write!(w, "{}", be32_or_0(value, 0)),
+        (Shape::Spi, 4 | 16) => write!(w, "{}", Hex(value)),
+        (Shape::Wrapped, _) => put_wrapped(w, value),
+        _ => write!(w, "{n} octets"),
     }
 }
 
-// Answers the shape in a group-wide policy: GWP_ATD (1), GWP_DTD (2) and GWP_SENDER_ID_BITS (3) are numbers.
-fn in_wide_policy(kind: usize) -> Shape {
-    match kind {
-        1 => Shape::Number,
-        2 => Shape::Number,
-        3 => Shape::Number,
-        _ => Shape::Count,
-    }
-}
-
-// Answers the shape in a key bag: SA_KEY and WRAP_KEY (1 in their bags) are wrapped keys.
-fn in_bag(kind: usize) -> Shape {
-    match kind {
-        1 => Shape::Wrapped,
-        _ => Shape::Count,
-    }
-}
-
-fn shown(rt: &impl Print, out: &mut [u8], n: usize, shape: Shape, value: &[u8]) -> usize {
-    match shape {
-        Shape::Number => number(rt, out, n, value),
-        Shape::Spi => spi(rt, out, n, value),
-        Shape::Wrapped => wrapped(rt, out, n, value),
-        Shape::Count => counted(rt, out, n, value),
-    }
-}
-
-fn counted(rt: &impl Print, out: &mut [u8], n: usize, value: &[u8]) -> usize {
-    text_names::say(rt, out, n, b": % octets", value.len(), 0, 0)
-}
-
-fn number(rt: &impl Print, out: &mut [u8], n: usize, value: &[u8]) -> usize {
-    let count = value.len();
-    match count {
-        2 => text_names::say(rt, out, n, b": %", be16_or_0(value, 0), 0, 0),
-        4 => text_names::say(rt, out, n, b": %", be32_or_0(value, 0), 0, 0),
-        _ => counted(rt, out, n, value),
-    }
-}
-
-// Puts an SPI of AH or ESP (4 octets) or of a Rekey SA (16 octets). A value of another size is counted.
-fn spi(rt: &impl Print, out: &mut [u8], n: usize, value: &[u8]) -> usize {
-    let count = value.len();
-    match count {
-        4 => octets(rt, out, n, value),
-        16 => octets(rt, out, n, value),
-        _ => counted(rt, out, n, value),
-    }
-}
-
-fn octets(rt: &impl Print, out: &mut [u8], n: usize, value: &[u8]) -> usize {
-    let a = text_names::text(rt, out, n, b": ");
-    text_names::octets(rt, out, a, value)
-}
-
-fn wrapped(rt: &impl Print, out: &mut [u8], n: usize, value: &[u8]) -> usize {
-    let text = b": Key ID %, KWK ID %, % octets wrapped";
-    text_names::say(
-        rt,
-        out,
-        n,
-        text,
-        be32_or_0(value, 0),
-        be32_or_0(value, 4),
-        span(8, value.len()),
+fn put_wrapped(w: &mut impl Write, value: &[u8]) -> fmt::Result {
+    let (id, kwk) = (be32_or_0(value, 0), be32_or_0(value, 4));
+    write!(
+        w,
+        "Key ID {id}, KWK ID {kwk}, {} octets wrapped",
+        value.len().saturating_sub(8)
     )
 }

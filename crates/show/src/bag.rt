@@ -1,63 +1,39 @@
 // Shows key bags: of a wrapped key its Key ID, its KWK ID and how many octets are wrapped, and no octet of it.
-use crate::line::MIDDLE;
-use ikev2_numbers::NO_PROTOCOL;
-use text_faults::places::{behind, end_at, holds, octet, part, span};
+use crate::attribute::put_attributes;
+use crate::frame::Shown;
+use crate::line::{MIDDLE, put_head, put_protocol_and_spi};
+use ikev2_numbers::{NO_PROTOCOL, POLICY_HEAD};
+use std::fmt;
+use std::fmt::Write;
+use text_faults::places::end_at;
 
-// Puts the key bags of a KD payload's body from `from` to `to`, up to `stop`.
-pub(crate) fn bags(
-    rt: &impl Print,
-    out: &mut [u8],
-    n: usize,
-    s: &[u8],
-    from: usize,
-    to: usize,
-    stop: usize,
-) -> usize {
-    let mut m = n;
+// Puts the key bags of a KD payload's body from `from` to `to`, up to the one that breaks the layout.
+pub(crate) fn put_bags(w: &mut impl Write, f: Shown, from: usize, to: usize) -> fmt::Result {
     let mut at = from;
     while at < to {
-        let end = end_at(s, at, to, 4);
-        m = bag(rt, out, m, s, at, end, stop);
-        if holds(at, stop, end) {
-            return m;
+        let end = end_at(f.octets, at, to, POLICY_HEAD);
+        put_bag(w, f, at, end)?;
+        if f.breaks_within(at, end) {
+            return Ok(());
         }
         at = end;
     }
-    m
+    Ok(())
 }
 
 // Puts the key bag from `at` to `end`, or why it breaks.
-fn bag(
-    rt: &impl Print,
-    out: &mut [u8],
-    n: usize,
-    s: &[u8],
-    at: usize,
-    end: usize,
-    stop: usize,
-) -> usize {
-    if at == stop {
-        return text_faults::of_head(rt, out, n, b"key bag: ", part(s, at, end), stop);
+fn put_bag(w: &mut impl Write, f: Shown, at: usize, end: usize) -> fmt::Result {
+    if f.breaks_at(at) {
+        return text_faults::of_head(w, "key bag: ", f.part(at, end), at);
     }
-    let first = octet(s, at);
-    let body = behind(at, 4 + wire_policies::spi_size(first));
-    let a = crate::line::head(rt, out, n, MIDDLE, at, span(at, end));
-    let b = bag_head(rt, out, a, first, part(s, behind(at, 4), body));
-    crate::attribute::attributes(
-        rt,
-        out,
-        b,
-        wire_bags::place_of(false, first),
-        s,
-        body,
-        end,
-        stop,
-    )
-}
-
-fn bag_head(rt: &impl Print, out: &mut [u8], n: usize, first: usize, spi: &[u8]) -> usize {
+    let first = f.octet(at);
+    let spi = at.saturating_add(POLICY_HEAD);
+    let body = spi.saturating_add(wire_policies::spi_size(first));
+    put_head(w, MIDDLE, at, end.saturating_sub(at))?;
     if first == NO_PROTOCOL {
-        return text_names::text(rt, out, n, b"Member Key Bag\n");
+        writeln!(w, "Member Key Bag")?;
+    } else {
+        put_protocol_and_spi(w, "Group Key Bag", first, f.part(spi, body))?;
     }
-    crate::line::protocol_and_spi(rt, out, n, b"Group Key Bag ", first, spi)
+    put_attributes(w, wire_bags::place_of(false, first), f, body, end)
 }

@@ -1,145 +1,136 @@
 // Shows a frame: its header and its payloads, up to where its layout breaks.
-use crate::header::SIZE;
-use crate::line::OUTER;
-use ikev2_numbers::NO_PAYLOAD;
-use text_faults::places::{behind, end_at, holds, octet, part, span};
+use crate::header::put_header;
+use crate::line::{OUTER, put_head};
+use ikev2_numbers::{
+    CRITICAL, DELETE, FIRST_PAYLOAD_AT, GSA, HEADER, KD, NO_PAYLOAD, PAYLOAD_HEADER,
+};
+use std::fmt;
+use std::fmt::Write;
+use text_faults::places::{end_at, octet, part};
+use text_names::tables;
 use wire_attributes::Layout;
 use wire_frames::HeaderRead;
 
+// The Encrypted and Authenticated payload (RFC 7296) and the Encrypted and Authenticated Fragment payload (RFC 7383).
+const ENCRYPTED: usize = 46;
+
+const ENCRYPTED_FRAGMENT: usize = 53;
+
+// The octets of a frame, and the offset at which its layout breaks, if it does.
+#[derive(Clone, Copy)]
+pub(crate) struct Shown<'a> {
+    pub(crate) octets: &'a [u8],
+    pub(crate) stop: Option<usize>,
+}
+
+impl<'a> Shown<'a> {
+    // Answers the octets from `from` up to `to`, or none if these are not all within the frame.
+    pub(crate) fn part(self, from: usize, to: usize) -> &'a [u8] {
+        part(self.octets, from, to)
+    }
+
+    // Answers the octet at `at`, or 0 outside of the frame.
+    pub(crate) fn octet(self, at: usize) -> usize {
+        octet(self.octets, at)
+    }
+
+    // Whether the structure at `at` is the one that breaks the layout.
+    pub(crate) fn breaks_at(self, at: usize) -> bool {
+        self.stop.is_some_and(|stop| at == stop)
+    }
+
+    // Whether the structure that breaks the layout is the one from `at` to `end`, or within it.
+    pub(crate) fn breaks_within(self, at: usize, end: usize) -> bool {
+        self.stop.is_some_and(|stop| at <= stop && stop < end)
+    }
+}
+
 // Puts the frame `s`, or why its header breaks.
-pub(crate) fn frame(rt: &impl Print, out: &mut [u8], n: usize, s: &[u8]) -> usize {
+pub(crate) fn put_frame(w: &mut impl Write, s: &[u8]) -> fmt::Result {
     match wire_frames::read_header(s) {
-        HeaderRead::Header {
-            first,
-            exchange: _,
-            message_id: _,
-        } => {
-            let a = crate::header::header(rt, out, n, s);
-            opened(rt, out, a, s, first)
+        HeaderRead::Header { first, .. } => {
+            put_header(w, s)?;
+            put_opened(w, s, first)
         }
-        HeaderRead::Broken => text_faults::of_header(rt, out, n, s),
+        HeaderRead::Broken => text_faults::of_header(w, s),
     }
 }
 
 // Puts what stands behind the header of `s`. An encrypted first payload is named and not opened.
-fn opened(rt: &impl Print, out: &mut [u8], n: usize, s: &[u8], first: usize) -> usize {
-    if is_encrypted(first) {
-        if SIZE < s.len() {
-            return encrypted(rt, out, n, first, s.len() - SIZE);
-        }
+fn put_opened(w: &mut impl Write, s: &[u8], first: usize) -> fmt::Result {
+    if matches!(first, ENCRYPTED | ENCRYPTED_FRAGMENT) && HEADER < s.len() {
+        put_head(w, OUTER, HEADER, s.len() - HEADER)?;
+        return writeln!(
+            w,
+            "payload {} ({first}), encrypted: not opened",
+            tables::payload(first)
+        );
     }
     match wire_frames::frame_layout(s) {
-        Layout::Whole => whole(rt, out, n, s),
-        Layout::Broken(o) => broken(rt, out, n, s, o),
+        Layout::Whole => {
+            put_payloads(
+                w,
+                Shown {
+                    octets: s,
+                    stop: None,
+                },
+            )?;
+            text_refusals::put_applying(w, s)
+        }
+        Layout::Broken(stop) => {
+            put_payloads(
+                w,
+                Shown {
+                    octets: s,
+                    stop: Some(stop),
+                },
+            )?;
+            // Payloads that do not end with the frame count for the header.
+            if stop == 0 {
+                text_faults::of_chain(w, s)?;
+            }
+            Ok(())
+        }
     }
 }
 
-// Whether `kind` is the Encrypted and Authenticated payload (RFC 7296) or the Encrypted and Authenticated Fragment payload (RFC 7383).
-fn is_encrypted(kind: usize) -> bool {
-    match kind {
-        46 => true,
-        53 => true,
-        _ => false,
-    }
-}
-
-fn encrypted(rt: &impl Print, out: &mut [u8], n: usize, kind: usize, len: usize) -> usize {
-    let a = crate::line::head(rt, out, n, OUTER, SIZE, len);
-    let b = text_names::titled(
-        rt,
-        out,
-        a,
-        b"payload ",
-        text_names::tables::payload(kind),
-        kind,
-    );
-    text_names::text(rt, out, b, b", encrypted: not opened\n")
-}
-
-// Puts the payloads of a frame whose layout is whole, and which clauses apply to it.
-fn whole(rt: &impl Print, out: &mut [u8], n: usize, s: &[u8]) -> usize {
-    let a = payloads(rt, out, n, s, 0);
-    text_refusals::applying(rt, out, a, s)
-}
-
-// Puts the payloads up to `stop`, and why the layout breaks. Payloads that do not end with the frame count for the header, at 0.
-fn broken(rt: &impl Print, out: &mut [u8], n: usize, s: &[u8], stop: usize) -> usize {
-    let a = payloads(rt, out, n, s, stop);
-    if stop == 0 {
-        return text_faults::of_chain(rt, out, a, s);
-    }
-    a
-}
-
-// Puts the payloads of the frame `s`, up to `stop`.
-fn payloads(rt: &impl Print, out: &mut [u8], n: usize, s: &[u8], stop: usize) -> usize {
-    let mut m = n;
-    let mut kind = octet(s, 16);
-    let mut at = SIZE;
-    while at < s.len() {
+// Puts the payloads of the frame, up to the one that breaks its layout.
+fn put_payloads(w: &mut impl Write, f: Shown) -> fmt::Result {
+    let mut kind = f.octet(FIRST_PAYLOAD_AT);
+    let mut at = HEADER;
+    while at < f.octets.len() {
         if kind == NO_PAYLOAD {
-            return m;
+            return Ok(());
         }
-        let end = end_at(s, at, s.len(), 4);
-        m = payload(rt, out, m, kind, s, at, end, stop);
-        if holds(at, stop, end) {
-            return m;
+        let end = end_at(f.octets, at, f.octets.len(), PAYLOAD_HEADER);
+        put_payload(w, kind, f, at, end)?;
+        if f.breaks_within(at, end) {
+            return Ok(());
         }
-        kind = octet(s, at);
+        kind = f.octet(at);
         at = end;
     }
-    m
+    Ok(())
 }
 
 // Puts the payload from `at` to `end`, or why it breaks.
-fn payload(
-    rt: &impl Print,
-    out: &mut [u8],
-    n: usize,
-    kind: usize,
-    s: &[u8],
-    at: usize,
-    end: usize,
-    stop: usize,
-) -> usize {
-    if at == stop {
-        return text_faults::of_payload(rt, out, n, kind, part(s, at, end), stop);
+fn put_payload(w: &mut impl Write, kind: usize, f: Shown, at: usize, end: usize) -> fmt::Result {
+    if f.breaks_at(at) {
+        return text_faults::of_payload(w, kind, f.part(at, end), at);
     }
-    let a = crate::line::head(rt, out, n, OUTER, at, span(at, end));
-    let b = payload_head(rt, out, a, kind, 128 <= octet(s, behind(at, 1)));
-    body(rt, out, b, kind, s, behind(at, 4), end, stop)
+    let critical = CRITICAL <= f.octet(at.saturating_add(1));
+    put_head(w, OUTER, at, end.saturating_sub(at))?;
+    write!(w, "payload {} ({kind})", tables::payload(kind))?;
+    writeln!(w, "{}", if critical { ", critical" } else { "" })?;
+    put_body(w, kind, f, at.saturating_add(PAYLOAD_HEADER), end)
 }
 
-fn payload_head(rt: &impl Print, out: &mut [u8], n: usize, kind: usize, critical: bool) -> usize {
-    let a = text_names::titled(
-        rt,
-        out,
-        n,
-        b"payload ",
-        text_names::tables::payload(kind),
-        kind,
-    );
-    if critical {
-        return text_names::text(rt, out, a, b", critical\n");
-    }
-    crate::line::ended(rt, out, a)
-}
-
-// Puts what the body of a payload of type `kind` holds: of D (42), GSA (51) and KD (52), and nothing of others.
-fn body(
-    rt: &impl Print,
-    out: &mut [u8],
-    n: usize,
-    kind: usize,
-    s: &[u8],
-    from: usize,
-    to: usize,
-    stop: usize,
-) -> usize {
+// Puts what the body of a payload of type `kind` holds: of D, GSA and KD, and nothing of others.
+fn put_body(w: &mut impl Write, kind: usize, f: Shown, from: usize, to: usize) -> fmt::Result {
     match kind {
-        42 => crate::delete::delete(rt, out, n, s, from, to),
-        51 => crate::policy::policies(rt, out, n, s, from, to, stop),
-        52 => crate::bag::bags(rt, out, n, s, from, to, stop),
-        _ => n,
+        DELETE => crate::delete::put_delete(w, f, from, to),
+        GSA => crate::policy::put_policies(w, f, from, to),
+        KD => crate::bag::put_bags(w, f, from, to),
+        _ => Ok(()),
     }
 }

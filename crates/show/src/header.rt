@@ -1,54 +1,48 @@
 // Shows the IKE header of a frame.
-use crate::line::OUTER;
+use crate::line::{OUTER, put_head};
+use ikev2_numbers::{EXCHANGE_AT, FLAGS_AT, HEADER, MESSAGE_ID_AT, MINOR_VERSIONS, VERSION_AT};
+use std::fmt;
+use std::fmt::Write;
 use text_faults::places::{be32_or_0, octet, part};
+use text_names::{Hex, tables};
 
-// The size of a header in octets.
-pub(crate) const SIZE: usize = 28;
+// The octets of the two SPIs at the start of a header.
+const SPIS: usize = 16;
+
+// The flags that are named (RFC 7296, section 3.1): bits 3, 4 and 5.
+const INITIATOR: usize = 8;
+
+const VERSION: usize = 16;
+
+const RESPONSE: usize = 32;
 
 // Puts the line of the header of `s`.
-pub(crate) fn header(rt: &impl Print, out: &mut [u8], n: usize, s: &[u8]) -> usize {
-    let kind = octet(s, 18);
-    let a = crate::line::head(rt, out, n, OUTER, 0, SIZE);
-    let b = text_names::titled(
-        rt,
-        out,
-        a,
-        b"header ",
-        text_names::tables::exchange(kind),
-        kind,
-    );
-    let version = octet(s, 17);
-    let c = text_names::say(
-        rt,
-        out,
-        b,
-        b", version %.%, flags 0x",
-        version / 16,
-        version % 16,
-        0,
-    );
-    let d = flags(rt, out, c, octet(s, 19));
-    identity(rt, out, d, s)
+pub(crate) fn put_header(w: &mut impl Write, s: &[u8]) -> fmt::Result {
+    let kind = octet(s, EXCHANGE_AT);
+    let version = octet(s, VERSION_AT);
+    let (major, minor) = (version / MINOR_VERSIONS, version % MINOR_VERSIONS);
+    put_head(w, OUTER, 0, HEADER)?;
+    write!(
+        w,
+        "header {} ({kind}), version {major}.{minor}, flags ",
+        tables::exchange(kind)
+    )?;
+    put_flags(w, octet(s, FLAGS_AT))?;
+    let id = be32_or_0(s, MESSAGE_ID_AT);
+    writeln!(w, ", SPI {}, Message ID {id}", Hex(part(s, 0, SPIS)))
 }
 
-// Puts the flags `x`, and the names of those that are set. RFC 7296, section 3.1: bits 3, 4 and 5 are named.
-fn flags(rt: &impl Print, out: &mut [u8], n: usize, x: usize) -> usize {
-    let a = text_names::hexadecimal(rt, out, n, x as u64, 2);
-    let b = flag(rt, out, a, x / 8, b" Initiator");
-    let c = flag(rt, out, b, x / 16, b" Version");
-    flag(rt, out, c, x / 32, b" Response")
+// Puts the flags `x`, and the names of those that are set.
+fn put_flags(w: &mut impl Write, x: usize) -> fmt::Result {
+    write!(w, "0x{x:02x}")?;
+    put_flag(w, x, INITIATOR, "Initiator")?;
+    put_flag(w, x, VERSION, "Version")?;
+    put_flag(w, x, RESPONSE, "Response")
 }
 
-// Puts `name` if the lowest bit of `x` is set.
-fn flag(rt: &impl Print, out: &mut [u8], n: usize, x: usize, name: &[u8]) -> usize {
-    if x % 2 == 1 {
-        return text_names::text(rt, out, n, name);
+fn put_flag(w: &mut impl Write, x: usize, flag: usize, name: &str) -> fmt::Result {
+    if x & flag != 0 {
+        write!(w, " {name}")?;
     }
-    n
-}
-
-fn identity(rt: &impl Print, out: &mut [u8], n: usize, s: &[u8]) -> usize {
-    let a = text_names::text(rt, out, n, b", SPI ");
-    let b = text_names::octets(rt, out, a, part(s, 0, 16));
-    text_names::say(rt, out, b, b", Message ID %\n", be32_or_0(s, 20), 0, 0)
+    Ok(())
 }

@@ -1,7 +1,6 @@
 // Reads the lines of the member program, or bare frames, and prints each frame as a tree, or its tree up to where its layout breaks and why
 // it does. Prints no octet of a key, and no octet without a name in the papers.
-// A function that puts text takes `rt`, by which it writes, the room `out` and the place `n` for it, and answers the place behind it.
-// Offsets count from the start of the frame; `stop` is the one at which its layout breaks, or 0 if it does not break in a payload.
+// Offsets count from the start of the frame. A function that puts text is an error where that cannot be written.
 #![tactic(auto)]
 
 mod address;
@@ -17,6 +16,7 @@ mod partial;
 mod policy;
 mod reading;
 
+// A write that failed ends the program, and nothing is told of it.
 fn main(rt: HostRuntime) {
-    input::show_all(&rt);
+    let _ = input::show_all(&rt);
 }

@@ -1,147 +1,117 @@
 // Shows a policy in which the layout breaks, up to there. The view shows no such policy.
-use crate::line::MIDDLE;
-use ikev2_numbers::NO_PROTOCOL;
-use text_faults::places::{be16_or_0, behind, end_at, holds, octet, part, span};
-use wire_attributes::tables::Place;
+use crate::attribute::put_attributes;
+use crate::frame::Shown;
+use crate::line::{MIDDLE, put_head, put_protocol_and_spi};
+use crate::policy::{put_addresses, put_ports, put_selector_head, put_transform};
+use ikev2_numbers::{
+    ADDRESSES_AT, END_PORT_AT, MORE_TRANSFORMS, NO_PROTOCOL, POLICY_HEAD, START_PORT_AT,
+    TRANSFORM_HEAD, TRANSFORM_ID_AT, TRANSFORM_TYPE_AT,
+};
+use std::fmt;
+use std::fmt::Write;
+use text_faults::places::{be16_or_0, end_at, octet, part};
+use wire_attributes::tables::{Place, in_policy};
+use wire_policies::selectors::selector_size;
 
-// Puts the policy from `at` to `end`, up to `stop`.
-pub(crate) fn policy(
-    rt: &impl Print,
-    out: &mut [u8],
-    n: usize,
-    s: &[u8],
-    at: usize,
-    end: usize,
-    stop: usize,
-) -> usize {
-    let p = part(s, at, end);
-    if wire_policies::head_fits(p) {
-        let a = crate::line::head(rt, out, n, MIDDLE, at, span(at, end));
-        return held(rt, out, a, octet(s, at), s, at, end, stop);
+// Puts the policy from `at` to `end`, in which the layout breaks, up to there.
+pub(crate) fn put_partial(w: &mut impl Write, f: Shown, at: usize, end: usize) -> fmt::Result {
+    let p = f.part(at, end);
+    if !wire_policies::head_fits(p) {
+        return text_faults::of_head(w, "policy: ", p, f.stop.unwrap_or(at));
     }
-    text_faults::of_head(rt, out, n, b"policy: ", p, stop)
-}
-
-// Puts what the policy holds, by its `first` octet: 0 for a group-wide policy, else its protocol.
-fn held(
-    rt: &impl Print,
-    out: &mut [u8],
-    n: usize,
-    first: usize,
-    s: &[u8],
-    at: usize,
-    end: usize,
-    stop: usize,
-) -> usize {
-    let spi = behind(at, 4);
+    put_head(w, MIDDLE, at, end.saturating_sub(at))?;
+    let first = f.octet(at);
+    let spi = at.saturating_add(POLICY_HEAD);
     if first == NO_PROTOCOL {
-        let a = text_names::text(rt, out, n, b"group-wide policy\n");
-        return crate::attribute::attributes(rt, out, a, Place::GroupWidePolicy, s, spi, end, stop);
+        writeln!(w, "group-wide policy")?;
+        return put_attributes(w, Place::GroupWidePolicy, f, spi, end);
     }
-    let body = behind(spi, wire_policies::spi_size(first));
-    let b = crate::policy::policy_head(rt, out, n, first, part(s, spi, body));
-    let place = wire_attributes::tables::in_policy(first);
-    source(rt, out, b, place, s, body, end, stop)
+    let body = spi.saturating_add(wire_policies::spi_size(first));
+    put_protocol_and_spi(w, "policy", first, f.part(spi, body))?;
+    put_from_source(w, in_policy(first), f, body, end)
 }
 
 // Puts the policy from its source selector on, which is due at `at`.
-fn source(
-    rt: &impl Print,
-    out: &mut [u8],
-    n: usize,
+fn put_from_source(
+    w: &mut impl Write,
     place: Place,
-    s: &[u8],
+    f: Shown,
     at: usize,
     to: usize,
-    stop: usize,
-) -> usize {
-    if to <= at {
-        return text_faults::of_missing(rt, out, n, b"no source selector\n", stop);
+) -> fmt::Result {
+    match selector_end(f, at, to) {
+        Some(end) => {
+            put_selector(w, true, f, at, end)?;
+            put_from_destination(w, place, f, end, to)
+        }
+        None => put_no_selector(w, "source selector", f, at, to),
     }
-    if at == stop {
-        return text_faults::of_selector(rt, out, n, part(s, at, to), stop);
-    }
-    let end = behind(at, wire_policies::selectors::selector_size(octet(s, at)));
-    let a = selector(rt, out, n, true, s, at, end);
-    destination(rt, out, a, place, s, end, to, stop)
 }
 
 // Puts the policy from its destination selector on, which is due at `at`.
-fn destination(
-    rt: &impl Print,
-    out: &mut [u8],
-    n: usize,
+fn put_from_destination(
+    w: &mut impl Write,
     place: Place,
-    s: &[u8],
+    f: Shown,
     at: usize,
     to: usize,
-    stop: usize,
-) -> usize {
-    if to <= at {
-        return text_faults::of_missing(rt, out, n, b"no destination selector\n", stop);
+) -> fmt::Result {
+    match selector_end(f, at, to) {
+        Some(end) => {
+            put_selector(w, false, f, at, end)?;
+            put_suite(w, place, f, end, to)
+        }
+        None => put_no_selector(w, "destination selector", f, at, to),
     }
-    if at == stop {
-        return text_faults::of_selector(rt, out, n, part(s, at, to), stop);
-    }
-    let end = behind(at, wire_policies::selectors::selector_size(octet(s, at)));
-    let a = selector(rt, out, n, false, s, at, end);
-    suite(rt, out, a, place, s, end, to, stop)
 }
 
-fn selector(
-    rt: &impl Print,
-    out: &mut [u8],
-    n: usize,
-    first: bool,
-    s: &[u8],
-    at: usize,
-    end: usize,
-) -> usize {
-    let p = part(s, at, end);
-    let a = crate::policy::selector_head(rt, out, n, first, at, span(at, end));
-    let b = crate::policy::addresses(rt, out, a, part(p, 8, p.len()));
-    crate::policy::ports(rt, out, b, octet(p, 1), be16_or_0(p, 4), be16_or_0(p, 6))
+// Answers where the selector ends that is due at `at`, if there is one and the layout does not break there.
+fn selector_end(f: Shown, at: usize, to: usize) -> Option<usize> {
+    if to <= at || f.breaks_at(at) {
+        return None;
+    }
+    Some(at.saturating_add(selector_size(f.octet(at))))
+}
+
+// Says why no selector is shown that is due at `at`, in a policy that ends at `to`. `which` names it.
+fn put_no_selector(w: &mut impl Write, which: &str, f: Shown, at: usize, to: usize) -> fmt::Result {
+    let stop = f.stop.unwrap_or(at);
+    if to <= at {
+        return text_faults::of_missing(w, which, stop);
+    }
+    text_faults::of_selector(w, f.part(at, to), stop)
+}
+
+fn put_selector(w: &mut impl Write, first: bool, f: Shown, at: usize, end: usize) -> fmt::Result {
+    let p = f.part(at, end);
+    put_selector_head(w, first, at, end)?;
+    put_addresses(w, part(p, ADDRESSES_AT, p.len()))?;
+    put_ports(
+        w,
+        octet(p, 1),
+        be16_or_0(p, START_PORT_AT),
+        be16_or_0(p, END_PORT_AT),
+    )
 }
 
 // Puts the transforms up to the last one, then the attributes.
-fn suite(
-    rt: &impl Print,
-    out: &mut [u8],
-    n: usize,
-    place: Place,
-    s: &[u8],
-    from: usize,
-    to: usize,
-    stop: usize,
-) -> usize {
-    let mut m = n;
+fn put_suite(w: &mut impl Write, place: Place, f: Shown, from: usize, to: usize) -> fmt::Result {
     let mut at = from;
     while at < to {
-        let end = end_at(s, at, to, 8);
-        m = transform(rt, out, m, s, at, end, stop);
-        if holds(at, stop, end) {
-            return m;
+        let end = end_at(f.octets, at, to, TRANSFORM_HEAD);
+        let p = f.part(at, end);
+        if f.breaks_at(at) {
+            return text_faults::of_transform(w, p, at);
         }
-        if octet(s, at) != 3 {
-            return crate::attribute::attributes(rt, out, m, place, s, end, to, stop);
+        let id = be16_or_0(p, TRANSFORM_ID_AT);
+        put_transform(w, octet(p, TRANSFORM_TYPE_AT), id, f, at, end)?;
+        if f.breaks_within(at, end) {
+            return Ok(());
+        }
+        if f.octet(at) != MORE_TRANSFORMS {
+            return put_attributes(w, place, f, end, to);
         }
         at = end;
     }
-    text_faults::of_missing(rt, out, m, b"no last transform\n", stop)
-}
-
-fn transform(
-    rt: &impl Print,
-    out: &mut [u8],
-    n: usize,
-    s: &[u8],
-    at: usize,
-    end: usize,
-    stop: usize,
-) -> usize {
-    let p = part(s, at, end);
-    if at == stop {
-        return text_faults::of_transform(rt, out, n, p, stop);
-    }
-    crate::policy::transform(rt, out, n, octet(p, 4), be16_or_0(p, 6), s, at, end, stop)
+    text_faults::of_missing(w, "last transform", f.stop.unwrap_or(from))
 }

@@ -1,280 +1,158 @@
 // Shows policies. A whole one is read by the view (`wire_view`), one in which the layout breaks by `partial`.
-use crate::line::{INNER, MIDDLE};
-use text_faults::places::{be16_or_0, behind, end_at, holds, part, span};
-use wire_attributes::tables::Place;
+use crate::address::Address;
+use crate::attribute::{put_attribute, put_attributes};
+use crate::frame::Shown;
+use crate::line::{INNER, MIDDLE, put_head, put_protocol_and_spi};
+use crate::partial::put_partial;
+use ikev2_numbers::{POLICY_HEAD, STRUCTURE_LENGTH_AT, TRANSFORM_HEAD};
+use std::fmt;
+use std::fmt::Write;
+use text_faults::places::{be16_or_0, end_at, part};
+use text_names::tables;
+use wire_attributes::tables::{Place, in_policy, in_transform};
 use wire_view::items::Item;
 use wire_view::read::Kind;
 
-// Puts the policies of a GSA payload's body from `from` to `to`, up to `stop`.
-pub(crate) fn policies(
-    rt: &impl Print,
-    out: &mut [u8],
-    n: usize,
-    s: &[u8],
-    from: usize,
-    to: usize,
-    stop: usize,
-) -> usize {
-    let mut m = n;
+// Puts the policies of a GSA payload's body from `from` to `to`, up to the one in which the layout breaks.
+pub(crate) fn put_policies(w: &mut impl Write, f: Shown, from: usize, to: usize) -> fmt::Result {
     let mut at = from;
     while at < to {
-        let end = end_at(s, at, to, 4);
-        m = policy(rt, out, m, s, at, end, stop);
-        if holds(at, stop, end) {
-            return m;
+        let end = end_at(f.octets, at, to, POLICY_HEAD);
+        if f.breaks_within(at, end) {
+            return put_partial(w, f, at, end);
         }
+        put_head(w, MIDDLE, at, end.saturating_sub(at))?;
+        put_whole(w, f, at, end)?;
         at = end;
     }
-    m
-}
-
-// Puts the policy from `at` to `end`.
-fn policy(
-    rt: &impl Print,
-    out: &mut [u8],
-    n: usize,
-    s: &[u8],
-    at: usize,
-    end: usize,
-    stop: usize,
-) -> usize {
-    if holds(at, stop, end) {
-        return crate::partial::policy(rt, out, n, s, at, end, stop);
-    }
-    let a = crate::line::head(rt, out, n, MIDDLE, at, span(at, end));
-    whole(rt, out, a, s, at, end)
+    Ok(())
 }
 
 // Puts the whole policy from `from` to `to`.
-fn whole(rt: &impl Print, out: &mut [u8], n: usize, s: &[u8], from: usize, to: usize) -> usize {
-    let p = part(s, from, to);
+fn put_whole(w: &mut impl Write, f: Shown, from: usize, to: usize) -> fmt::Result {
+    let p = f.part(from, to);
     match wire_view::shown_kind(p) {
         Kind::GroupSa(protocol) => {
-            let a = policy_head(rt, out, n, protocol, wire_view::shown_spi(p));
-            let place = wire_attributes::tables::in_policy(protocol);
-            items(
-                rt,
-                out,
-                a,
-                place,
-                s,
-                from,
-                to,
-                4 + wire_policies::spi_size(protocol),
-            )
+            put_protocol_and_spi(w, "policy", protocol, wire_view::shown_spi(p))?;
+            let head = POLICY_HEAD + wire_policies::spi_size(protocol);
+            put_items(w, in_policy(protocol), f, from, to, head)
         }
         Kind::GroupWide => {
-            let a = text_names::text(rt, out, n, b"group-wide policy\n");
-            items(rt, out, a, Place::GroupWidePolicy, s, from, to, 4)
+            writeln!(w, "group-wide policy")?;
+            put_items(w, Place::GroupWidePolicy, f, from, to, POLICY_HEAD)
         }
-        Kind::Nothing => text_names::text(rt, out, n, b"nothing to show\n"),
+        Kind::Nothing => writeln!(w, "nothing to show"),
     }
 }
 
-// Puts the protocol and the SPI of a policy.
-pub(crate) fn policy_head(
-    rt: &impl Print,
-    out: &mut [u8],
-    n: usize,
-    protocol: usize,
-    spi: &[u8],
-) -> usize {
-    crate::line::protocol_and_spi(rt, out, n, b"policy ", protocol, spi)
-}
-
-// Where the text goes on (`n`), where the next item of the policy stands (`next`), the view's cursor there, and whether there was an item
-// (`more`).
-#[derive(Drop)]
-struct Step {
-    n: usize,
-    next: usize,
-    cursor: usize,
-    more: bool,
-}
-
-// Puts what the view shows behind the `head` octets of a policy, one item after the other.
-fn items(
-    rt: &impl Print,
-    out: &mut [u8],
-    n: usize,
+// Puts what the view shows behind the `head` octets of the policy from `from` to `to`, one item after the other.
+fn put_items(
+    w: &mut impl Write,
     place: Place,
-    s: &[u8],
+    f: Shown,
     from: usize,
     to: usize,
     head: usize,
-) -> usize {
-    let mut m = n;
-    let mut at = behind(from, head);
+) -> fmt::Result {
+    let p = f.part(from, to);
+    let mut at = from.saturating_add(head);
     let mut cursor = 0;
-    let mut i = 0;
-    while i < s.len() {
-        let step = item(rt, out, m, place, s, from, to, at, cursor);
-        m = step.n;
-        at = step.next;
-        cursor = step.cursor;
-        if step.more {
-            i += 1;
-        } else {
-            return m;
-        }
+    for _ in 0..f.octets.len() {
+        let step = wire_view::shown_step(p, cursor);
+        at = match step.item {
+            Item::Selector {
+                protocol,
+                start_port,
+                end_port,
+                start,
+                end,
+                ..
+            } => {
+                let next = from.saturating_add(end);
+                put_selector_head(w, cursor == 0, at, next)?;
+                put_addresses(w, part(p, start, end))?;
+                put_ports(w, protocol, start_port, end_port)?;
+                next
+            }
+            Item::Transform { kind, id, .. } => {
+                let length = be16_or_0(f.octets, at.saturating_add(STRUCTURE_LENGTH_AT));
+                let next = at.saturating_add(length);
+                put_transform(w, kind, id, f, at, next)?;
+                next
+            }
+            Item::Attribute {
+                kind,
+                start,
+                end,
+                ..
+            } => {
+                let next = from.saturating_add(end);
+                put_attribute(
+                    w,
+                    place,
+                    at,
+                    next.saturating_sub(at),
+                    kind,
+                    part(p, start, end),
+                )?;
+                next
+            }
+            Item::Nothing => return Ok(()),
+        };
+        cursor = step.next;
     }
-    m
+    Ok(())
 }
 
-// Puts what stands at `cursor` of the policy from `from` to `to`. Its offset in the frame is `at`.
-fn item(
-    rt: &impl Print,
-    out: &mut [u8],
-    n: usize,
-    place: Place,
-    s: &[u8],
-    from: usize,
-    to: usize,
-    at: usize,
-    cursor: usize,
-) -> Step {
-    let p = part(s, from, to);
-    let shown = wire_view::shown_step(p, cursor);
-    let here = shown.item;
-    let then = shown.next;
-    match here {
-        Item::Selector {
-            kind: _,
-            protocol,
-            start_port,
-            end_port,
-            start,
-            end,
-        } => {
-            let next = behind(from, end);
-            let a = selector_head(rt, out, n, cursor == 0, at, span(at, next));
-            let b = addresses(rt, out, a, part(p, start, end));
-            stepped(
-                ports(rt, out, b, protocol, start_port, end_port),
-                next,
-                then,
-            )
-        }
-        Item::Transform {
-            kind,
-            id,
-            key_lengths: _,
-            key_length: _,
-        } => {
-            let next = behind(at, be16_or_0(s, behind(at, 2)));
-            stepped(transform(rt, out, n, kind, id, s, at, next, 0), next, then)
-        }
-        Item::Attribute {
-            meaning: _,
-            short: _,
-            kind,
-            start,
-            end,
-        } => {
-            let next = behind(from, end);
-            let value = part(p, start, end);
-            stepped(
-                crate::attribute::attribute(rt, out, n, place, at, span(at, next), kind, value),
-                next,
-                then,
-            )
-        }
-        Item::Nothing => Step {
-            n,
-            next: at,
-            cursor: then,
-            more: false,
-        },
-    }
-}
-
-fn stepped(n: usize, next: usize, cursor: usize) -> Step {
-    Step {
-        n,
-        next,
-        cursor,
-        more: true,
-    }
-}
-
-// Puts the start of a selector's line. The first selector is the source.
-pub(crate) fn selector_head(
-    rt: &impl Print,
-    out: &mut [u8],
-    n: usize,
+// Puts the start of the line of the selector from `at` to `end`. The first selector is the source.
+pub(crate) fn put_selector_head(
+    w: &mut impl Write,
     first: bool,
     at: usize,
-    len: usize,
-) -> usize {
-    let a = crate::line::head(rt, out, n, INNER, at, len);
-    if first {
-        return text_names::text(rt, out, a, b"source ");
-    }
-    text_names::text(rt, out, a, b"destination ")
+    end: usize,
+) -> fmt::Result {
+    put_head(w, INNER, at, end.saturating_sub(at))?;
+    write!(w, "{} ", if first { "source" } else { "destination" })
 }
 
 // Puts the IP protocol and the ports of a selector.
-pub(crate) fn ports(
-    rt: &impl Print,
-    out: &mut [u8],
-    n: usize,
+pub(crate) fn put_ports(
+    w: &mut impl Write,
     protocol: usize,
     start: usize,
     end: usize,
-) -> usize {
-    text_names::say(
-        rt,
-        out,
-        n,
-        b", IP protocol %, ports % to %\n",
-        protocol,
-        start,
-        end,
-    )
+) -> fmt::Result {
+    writeln!(w, ", IP protocol {protocol}, ports {start} to {end}")
 }
 
 // Puts the two addresses of a selector, which are the two halves of `octets`.
-pub(crate) fn addresses(rt: &impl Print, out: &mut [u8], n: usize, octets: &[u8]) -> usize {
+pub(crate) fn put_addresses(w: &mut impl Write, octets: &[u8]) -> fmt::Result {
     let half = octets.len() / 2;
-    let a = crate::address::address(rt, out, n, part(octets, 0, half));
-    let b = text_names::text(rt, out, a, b" to ");
-    crate::address::address(rt, out, b, part(octets, half, octets.len()))
+    write!(
+        w,
+        "{} to {}",
+        Address(&octets[..half]),
+        Address(&octets[half..])
+    )
 }
 
-// Puts the transform from `at` to `end`, and its attributes up to `stop`.
-pub(crate) fn transform(
-    rt: &impl Print,
-    out: &mut [u8],
-    n: usize,
+// Puts the transform from `at` to `end`, and its attributes up to the one that breaks the layout.
+pub(crate) fn put_transform(
+    w: &mut impl Write,
     kind: usize,
     id: usize,
-    s: &[u8],
+    f: Shown,
     at: usize,
     end: usize,
-    stop: usize,
-) -> usize {
-    let a = crate::line::head(rt, out, n, INNER, at, span(at, end));
-    let b = transform_head(rt, out, a, kind, id);
-    let place = wire_attributes::tables::in_transform(kind);
-    crate::attribute::attributes(rt, out, b, place, s, behind(at, 8), end, stop)
-}
-
-fn transform_head(rt: &impl Print, out: &mut [u8], n: usize, kind: usize, id: usize) -> usize {
-    let a = text_names::titled(
-        rt,
-        out,
-        n,
-        b"transform ",
-        text_names::tables::transform_type(kind),
-        kind,
-    );
-    let b = text_names::titled(
-        rt,
-        out,
-        a,
-        b": ",
-        text_names::tables::transform_id(kind, id),
-        id,
-    );
-    crate::line::ended(rt, out, b)
+) -> fmt::Result {
+    put_head(w, INNER, at, end.saturating_sub(at))?;
+    write!(w, "transform {} ({kind}): ", tables::transform_type(kind))?;
+    writeln!(w, "{} ({id})", tables::transform_id(kind, id))?;
+    put_attributes(
+        w,
+        in_transform(kind),
+        f,
+        at.saturating_add(TRANSFORM_HEAD),
+        end,
+    )
 }

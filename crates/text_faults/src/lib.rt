@@ -1,76 +1,66 @@
-// Says why a layout breaks, for the program `show`: the structure at the offset of the break, and a phrase. Each function puts its text
-// into the lent room `out` at the place `n`, and answers the place behind it, as the functions of `text_names` do.
+// Says why a layout breaks, for the program `show`: the structure at the offset of the break, and a phrase. Each function writes its text
+// to a writer, and is an error where that cannot take it.
 // Internal: crates of this repository alone call it.
 #![tactic(auto)]
 
-use crate::places::{be16_or_0, be32_or_0, octet, part, span};
-use ikev2_numbers::{NO_PAYLOAD, NO_PROTOCOL};
+use crate::places::{be16_or_0, be32_or_0, octet, part};
+use ikev2_numbers::{
+    ATTRIBUTE_HEAD, DATA_SPI, DELETE_COUNT_AT, DELETE_HEAD, ESP, FIRST_PAYLOAD_AT, HEADER,
+    LENGTH_AT, MINOR_VERSIONS, MOST_OCTETS, NO_PAYLOAD, NO_PROTOCOL, PAYLOAD_HEADER, POLICY_HEAD,
+    STRUCTURE_LENGTH_AT, TRANSFORM_HEAD, VERSION_AT,
+};
+use std::fmt;
+use std::fmt::Write;
 use wire_attributes::Read;
 use wire_attributes::tables::{Meaning, Place};
 
 pub mod places;
 
-// The least sizes of structures in octets, by their own fields, and the greatest size of a frame.
-const HEADER: usize = 28;
-
-const FRAME: usize = 16384;
-
-const PAYLOAD: usize = 4;
-
-const TRANSFORM: usize = 8;
-
-const ATTRIBUTE: usize = 4;
-
 // Puts the start of the line: the `offset` of the break, and the structure `what`.
-fn breaks(rt: &impl Print, out: &mut [u8], n: usize, offset: usize, what: &[u8]) -> usize {
-    let a = text_names::say(rt, out, n, b"  1: breaks at offset %, ", offset, 0, 0);
-    text_names::text(rt, out, a, what)
+fn breaks(w: &mut impl Write, offset: usize, what: &str) -> fmt::Result {
+    write!(w, "  1: breaks at offset {offset}, {what}")
 }
 
 // Says that `count` octets are missing.
-fn short(rt: &impl Print, out: &mut [u8], n: usize, count: usize) -> usize {
-    text_names::say(rt, out, n, b"ends % octets short\n", count, 0, 0)
+fn short(w: &mut impl Write, count: usize) -> fmt::Result {
+    writeln!(w, "ends {count} octets short")
 }
 
 // Says what is wrong with the length field (octets 2 and 3) of `s`: it is missing, under `least` or over `s.len()`.
-fn of_size(rt: &impl Print, out: &mut [u8], n: usize, s: &[u8], least: usize) -> usize {
+fn of_size(w: &mut impl Write, s: &[u8], least: usize) -> fmt::Result {
     if s.len() < 4 {
-        return short(rt, out, n, span(s.len(), least));
+        return short(w, least.saturating_sub(s.len()));
     }
-    let length = be16_or_0(s, 2);
+    let length = be16_or_0(s, STRUCTURE_LENGTH_AT);
     if length < least {
-        return text_names::say(rt, out, n, b"length %, at least %\n", length, least, 0);
+        return writeln!(w, "length {length}, at least {least}");
     }
-    short(rt, out, n, span(s.len(), length))
+    short(w, length.saturating_sub(s.len()))
 }
 
 // Says why the header of the frame `s` breaks: by the size of the frame, the length field or the major version.
-pub fn of_header(rt: &impl Print, out: &mut [u8], n: usize, s: &[u8]) -> usize {
-    let a = breaks(rt, out, n, 0, b"header: ");
+pub fn of_header(w: &mut impl Write, s: &[u8]) -> fmt::Result {
+    breaks(w, 0, "header: ")?;
     let size = s.len();
     if size < HEADER {
-        return text_names::say(rt, out, a, b"% octets, at least %\n", size, HEADER, 0);
+        return writeln!(w, "{size} octets, at least {HEADER}");
     }
-    if FRAME < size {
-        return text_names::say(rt, out, a, b"% octets, at most %\n", size, FRAME, 0);
+    if MOST_OCTETS < size {
+        return writeln!(w, "{size} octets, at most {MOST_OCTETS}");
     }
-    of_length(rt, out, a, s)
+    of_length(w, s)
 }
 
-fn of_length(rt: &impl Print, out: &mut [u8], n: usize, s: &[u8]) -> usize {
-    let length = be32_or_0(s, 24);
+fn of_length(w: &mut impl Write, s: &[u8]) -> fmt::Result {
+    let length = be32_or_0(s, LENGTH_AT);
     if length == s.len() {
-        return text_names::say(
-            rt,
-            out,
-            n,
-            b"major version %, must be 2\n",
-            octet(s, 17) / 16,
-            0,
-            0,
+        return writeln!(
+            w,
+            "major version {}, must be 2",
+            octet(s, VERSION_AT) / MINOR_VERSIONS
         );
     }
-    text_names::say(rt, out, n, b"length %, octets %\n", length, s.len(), 0)
+    writeln!(w, "length {length}, octets {}", s.len())
 }
 
 // Where the chain of payloads ends: the offset `at`, and the type `kind` of the payload that is due there.
@@ -82,187 +72,124 @@ struct End {
 
 // Follows the payloads of the frame `s` to the end of their chain.
 fn chain_end(s: &[u8]) -> End {
-    let mut kind = octet(s, 16);
+    let mut kind = octet(s, FIRST_PAYLOAD_AT);
     let mut at = HEADER;
     while at < s.len() {
         if kind == NO_PAYLOAD {
             return End { at, kind };
         }
         kind = octet(s, at);
-        at = crate::places::end_at(s, at, s.len(), PAYLOAD);
+        at = crate::places::end_at(s, at, s.len(), PAYLOAD_HEADER);
     }
     End { at, kind }
 }
 
 // Says why the payloads do not end with the frame `s`: octets are left behind the last one, or none is left for the next.
-pub fn of_chain(rt: &impl Print, out: &mut [u8], n: usize, s: &[u8]) -> usize {
-    let a = breaks(rt, out, n, 0, b"header: ");
+pub fn of_chain(w: &mut impl Write, s: &[u8]) -> fmt::Result {
+    breaks(w, 0, "header: ")?;
     let e = chain_end(s);
     if e.kind == NO_PAYLOAD {
-        return text_names::say(
-            rt,
-            out,
-            a,
-            b"next payload 0, % octets left\n",
-            span(e.at, s.len()),
-            0,
-            0,
+        return writeln!(
+            w,
+            "next payload 0, {} octets left",
+            s.len().saturating_sub(e.at)
         );
     }
-    text_names::say(rt, out, a, b"next payload %, no octet left\n", e.kind, 0, 0)
+    writeln!(w, "next payload {}, no octet left", e.kind)
 }
 
 // Says why the payload `s` of type `kind` breaks at `offset`: by its length field or, for D, by its body. A fault in the body of D counts
 // for the payload.
-pub fn of_payload(
-    rt: &impl Print,
-    out: &mut [u8],
-    n: usize,
-    kind: usize,
-    s: &[u8],
-    offset: usize,
-) -> usize {
-    let a = breaks(rt, out, n, offset, b"");
-    let b = text_names::titled(
-        rt,
-        out,
-        a,
-        b"payload ",
-        text_names::tables::payload(kind),
-        kind,
-    );
-    let c = text_names::text(rt, out, b, b": ");
-    if octets::numbers::is_sized(s, PAYLOAD) {
-        return of_delete(rt, out, c, part(s, 4, s.len()));
+pub fn of_payload(w: &mut impl Write, kind: usize, s: &[u8], offset: usize) -> fmt::Result {
+    breaks(w, offset, "payload ")?;
+    write!(w, "{} ({kind}): ", text_names::tables::payload(kind))?;
+    if octets::numbers::is_sized(s, PAYLOAD_HEADER) {
+        return of_delete(w, part(s, PAYLOAD_HEADER, s.len()));
     }
-    of_size(rt, out, c, s, PAYLOAD)
+    of_size(w, s, PAYLOAD_HEADER)
 }
 
 // Says what is wrong with `s`, the body of D.
-fn of_delete(rt: &impl Print, out: &mut [u8], n: usize, s: &[u8]) -> usize {
-    if s.len() < 4 {
-        return text_names::say(rt, out, n, b"body of % octets, at least 4\n", s.len(), 0, 0);
+fn of_delete(w: &mut impl Write, s: &[u8]) -> fmt::Result {
+    if s.len() < DELETE_HEAD {
+        return writeln!(w, "body of {} octets, at least {DELETE_HEAD}", s.len());
     }
     let protocol = octet(s, 0);
     let size = octet(s, 1);
-    if protocol == 3 {
-        if size != 4 {
-            return of_spi_size(rt, out, n, protocol, size);
-        }
+    if protocol == ESP && size != DATA_SPI {
+        return of_spi_size(w, protocol, size);
     }
-    let text = b"SPI size %, count %, but % octets of SPIs\n";
-    text_names::say(rt, out, n, text, size, be16_or_0(s, 2), s.len() - 4)
-}
-
-// Says that `size` is not the SPI size of `protocol`.
-fn of_spi_size(rt: &impl Print, out: &mut [u8], n: usize, protocol: usize, size: usize) -> usize {
-    let a = text_names::say(rt, out, n, b"SPI size %, ", size, 0, 0);
-    let b = text_names::name(rt, out, a, text_names::tables::protocol(protocol));
-    text_names::say(
-        rt,
-        out,
-        b,
-        b" has %\n",
-        wire_policies::spi_size(protocol),
-        0,
-        0,
+    let (count, octets) = (be16_or_0(s, DELETE_COUNT_AT), s.len() - DELETE_HEAD);
+    writeln!(
+        w,
+        "SPI size {size}, count {count}, but {octets} octets of SPIs"
     )
 }
 
-// Says why the policy or key bag `s` breaks at `offset`: by its first octet, its SPI size or its length field. `what` names the structure.
-pub fn of_head(
-    rt: &impl Print,
-    out: &mut [u8],
-    n: usize,
-    what: &[u8],
-    s: &[u8],
-    offset: usize,
-) -> usize {
-    let a = breaks(rt, out, n, offset, what);
-    let first = octet(s, 0);
-    if first == NO_PROTOCOL {
-        return of_size(rt, out, a, s, 4);
-    }
-    if s.len() < 4 {
-        return of_size(rt, out, a, s, 4);
-    }
-    of_protocol(rt, out, a, first, s)
+// Says that `size` is not the SPI size of `protocol`.
+fn of_spi_size(w: &mut impl Write, protocol: usize, size: usize) -> fmt::Result {
+    let name = text_names::tables::protocol(protocol);
+    let own = wire_policies::spi_size(protocol);
+    writeln!(w, "SPI size {size}, {name} has {own}")
 }
 
-fn of_protocol(rt: &impl Print, out: &mut [u8], n: usize, first: usize, s: &[u8]) -> usize {
+// Says why the policy or key bag `s` breaks at `offset`: by its first octet, its SPI size or its length field. `what` names the structure.
+pub fn of_head(w: &mut impl Write, what: &str, s: &[u8], offset: usize) -> fmt::Result {
+    breaks(w, offset, what)?;
+    let first = octet(s, 0);
+    if first == NO_PROTOCOL || s.len() < POLICY_HEAD {
+        return of_size(w, s, POLICY_HEAD);
+    }
+    of_protocol(w, first, s)
+}
+
+fn of_protocol(w: &mut impl Write, first: usize, s: &[u8]) -> fmt::Result {
     let size = wire_policies::spi_size(first);
     if size == 0 {
-        return text_names::say(
-            rt,
-            out,
-            n,
-            b"first octet %, must be 0, 2, 3 or 6\n",
-            first,
-            0,
-            0,
-        );
+        return writeln!(w, "first octet {first}, must be 0, 2, 3 or 6");
     }
     if octet(s, 1) == size {
-        return of_size(rt, out, n, s, 4 + size);
+        return of_size(w, s, POLICY_HEAD + size);
     }
-    of_spi_size(rt, out, n, first, octet(s, 1))
+    of_spi_size(w, first, octet(s, 1))
 }
 
-// Says what is missing at a policy's end, by the phrase `what`. It counts for the policy, which starts at `offset`.
-pub fn of_missing(rt: &impl Print, out: &mut [u8], n: usize, what: &[u8], offset: usize) -> usize {
-    let a = breaks(rt, out, n, offset, b"policy: ");
-    text_names::text(rt, out, a, what)
+// Says that `what` is missing at a policy's end. It counts for the policy, which starts at `offset`.
+pub fn of_missing(w: &mut impl Write, what: &str, offset: usize) -> fmt::Result {
+    breaks(w, offset, "policy: ")?;
+    writeln!(w, "no {what}")
 }
 
 // Says why the selector `s` breaks at `offset`.
-pub fn of_selector(rt: &impl Print, out: &mut [u8], n: usize, s: &[u8], offset: usize) -> usize {
-    let a = breaks(rt, out, n, offset, b"selector: ");
+pub fn of_selector(w: &mut impl Write, s: &[u8], offset: usize) -> fmt::Result {
+    breaks(w, offset, "selector: ")?;
     let kind = octet(s, 0);
     let size = wire_policies::selectors::selector_size(kind);
     if size == 0 {
-        return text_names::say(rt, out, a, b"type %, must be 7 or 8\n", kind, 0, 0);
+        return writeln!(w, "type {kind}, must be 7 or 8");
     }
     if s.len() < size {
-        return short(rt, out, a, span(s.len(), size));
+        return short(w, size.saturating_sub(s.len()));
     }
-    text_names::say(
-        rt,
-        out,
-        a,
-        b"length %, type % has %\n",
-        be16_or_0(s, 2),
-        kind,
-        size,
+    writeln!(
+        w,
+        "length {}, type {kind} has {size}",
+        be16_or_0(s, STRUCTURE_LENGTH_AT)
     )
 }
 
 // Says why the transform `s` breaks at `offset`: by its length field or its first octet.
-pub fn of_transform(rt: &impl Print, out: &mut [u8], n: usize, s: &[u8], offset: usize) -> usize {
-    let a = breaks(rt, out, n, offset, b"transform: ");
-    if octets::numbers::is_sized(s, TRANSFORM) {
-        return text_names::say(
-            rt,
-            out,
-            a,
-            b"first octet %, must be 0 or 3\n",
-            octet(s, 0),
-            0,
-            0,
-        );
+pub fn of_transform(w: &mut impl Write, s: &[u8], offset: usize) -> fmt::Result {
+    breaks(w, offset, "transform: ")?;
+    if octets::numbers::is_sized(s, TRANSFORM_HEAD) {
+        return writeln!(w, "first octet {}, must be 0 or 3", octet(s, 0));
     }
-    of_size(rt, out, a, s, TRANSFORM)
+    of_size(w, s, TRANSFORM_HEAD)
 }
 
 // Says why the attribute at the start of `s` breaks at `offset`, by the `place` where it stands.
-pub fn of_attribute(
-    rt: &impl Print,
-    out: &mut [u8],
-    n: usize,
-    place: Place,
-    s: &[u8],
-    offset: usize,
-) -> usize {
-    let a = breaks(rt, out, n, offset, b"attribute: ");
+pub fn of_attribute(w: &mut impl Write, place: Place, s: &[u8], offset: usize) -> fmt::Result {
+    breaks(w, offset, "attribute: ")?;
     match wire_attributes::read_attribute(s) {
         Read::Attribute {
             short,
@@ -270,81 +197,64 @@ pub fn of_attribute(
             start,
             end,
         } => {
-            let b = text_names::name(rt, out, a, text_names::tables::attribute(place, kind));
+            write!(w, "{}", text_names::tables::attribute(place, kind))?;
             let meaning = wire_attributes::tables::meaning_in(place, kind);
-            of_format(rt, out, b, meaning, short, span(start, end))
+            of_format(w, meaning, short, end.saturating_sub(start))
         }
-        Read::Cut => of_cut(rt, out, a, place, s),
+        Read::Cut => of_cut(w, place, s),
     }
 }
 
 // Says why an attribute is cut off at the end of `s`: octets are missing, or it is in long form where it must be in short form.
-fn of_cut(rt: &impl Print, out: &mut [u8], n: usize, place: Place, s: &[u8]) -> usize {
-    if s.len() < ATTRIBUTE {
-        return short(rt, out, n, span(s.len(), ATTRIBUTE));
+fn of_cut(w: &mut impl Write, place: Place, s: &[u8]) -> fmt::Result {
+    if s.len() < ATTRIBUTE_HEAD {
+        return short(w, ATTRIBUTE_HEAD.saturating_sub(s.len()));
     }
     let kind = be16_or_0(s, 0);
     if is_short_form(wire_attributes::tables::meaning_in(place, kind)) {
-        let a = text_names::name(rt, out, n, text_names::tables::attribute(place, kind));
-        return in_long_form(rt, out, a);
+        write!(w, "{}", text_names::tables::attribute(place, kind))?;
+        return in_long_form(w);
     }
-    short(rt, out, n, span(s.len(), ATTRIBUTE + be16_or_0(s, 2)))
+    short(
+        w,
+        (ATTRIBUTE_HEAD + be16_or_0(s, 2)).saturating_sub(s.len()),
+    )
 }
 
 // Whether an attribute with this `meaning` is read in the short form.
 fn is_short_form(meaning: Meaning) -> bool {
-    match meaning {
-        Meaning::KeyLength => true,
-        Meaning::DeactivationDelay => true,
-        Meaning::InitialMessageId => false,
-        Meaning::KeyLifetime => false,
-        Meaning::SaKey => false,
-        Meaning::WrapKey => false,
-        Meaning::FreshKey => false,
-        Meaning::Skipped => false,
-    }
+    matches!(meaning, Meaning::KeyLength | Meaning::DeactivationDelay)
 }
 
 // Says why a whole attribute breaks: it is in the other form, or its value has a wrong `size`.
-fn of_format(
-    rt: &impl Print,
-    out: &mut [u8],
-    n: usize,
-    meaning: Meaning,
-    short: bool,
-    size: usize,
-) -> usize {
+fn of_format(w: &mut impl Write, meaning: Meaning, short: bool, size: usize) -> fmt::Result {
     if short {
-        return text_names::text(rt, out, n, b" in short form\n");
+        return writeln!(w, " in short form");
     }
     match meaning {
-        Meaning::InitialMessageId => of_four(rt, out, n, size),
-        Meaning::KeyLifetime => of_four(rt, out, n, size),
-        Meaning::SaKey => of_wrapped(rt, out, n, size),
-        Meaning::WrapKey => of_wrapped(rt, out, n, size),
-        Meaning::FreshKey => of_wrapped(rt, out, n, size),
-        Meaning::KeyLength => in_long_form(rt, out, n),
-        Meaning::DeactivationDelay => in_long_form(rt, out, n),
-        Meaning::Skipped => text_names::put(rt, out, n, 10),
+        Meaning::InitialMessageId | Meaning::KeyLifetime => of_four(w, size),
+        Meaning::SaKey | Meaning::WrapKey | Meaning::FreshKey => of_wrapped(w, size),
+        Meaning::KeyLength | Meaning::DeactivationDelay => in_long_form(w),
+        Meaning::Skipped => writeln!(w),
     }
 }
 
 // Says that a value of `size` octets must have 4.
-fn of_four(rt: &impl Print, out: &mut [u8], n: usize, size: usize) -> usize {
-    text_names::say(rt, out, n, b" of % octets, must be 4\n", size, 0, 0)
+fn of_four(w: &mut impl Write, size: usize) -> fmt::Result {
+    writeln!(w, " of {size} octets, must be 4")
 }
 
-fn in_long_form(rt: &impl Print, out: &mut [u8], n: usize) -> usize {
-    text_names::text(rt, out, n, b" in long form\n")
+fn in_long_form(w: &mut impl Write) -> fmt::Result {
+    writeln!(w, " in long form")
 }
 
 // Says why a value of `size` octets is no wrapped key: two IDs of 4 octets, and 16 to 264 wrapped octets.
-fn of_wrapped(rt: &impl Print, out: &mut [u8], n: usize, size: usize) -> usize {
+fn of_wrapped(w: &mut impl Write, size: usize) -> fmt::Result {
     if size < 24 {
-        return text_names::say(rt, out, n, b" of % octets, at least 24\n", size, 0, 0);
+        return writeln!(w, " of {size} octets, at least 24");
     }
     if 272 < size {
-        return text_names::say(rt, out, n, b" of % octets, at most 272\n", size, 0, 0);
+        return writeln!(w, " of {size} octets, at most 272");
     }
-    text_names::say(rt, out, n, b" of % octets, no multiple of 8\n", size, 0, 0)
+    writeln!(w, " of {size} octets, no multiple of 8")
 }

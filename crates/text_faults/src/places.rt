@@ -1,62 +1,35 @@
 // Reads a slice at places that may lie outside of it.
 ghost use Rattle.std.specs.Prelude.{◌<◌, ◌≤◌};
 
+use ikev2_numbers::STRUCTURE_LENGTH_AT;
 use wire_attributes::Read;
 
 // Answers the octets of `s` from `from` up to `to`, or none if these are not all within `s`.
 pub fn part(s: &[u8], from: usize, to: usize) -> &[u8] {
-    if to <= s.len() {
-        if from <= to {
-            return &s[from..to];
-        }
-    }
-    &s[0..0]
-}
-
-// Answers how many octets stand between `from` and `to`, or 0 if `to` comes first.
-pub fn span(from: usize, to: usize) -> usize {
-    if from <= to {
-        return to - from;
-    }
-    0
-}
-
-// Answers the place `count` octets behind `at`, or usize::MAX if there is no such place.
-pub fn behind(at: usize, count: usize) -> usize {
-    if usize::MAX - at < count {
-        return usize::MAX;
-    }
-    at + count
+    s.get(from..to).unwrap_or(&[])
 }
 
 // Answers the octet of `s` at `at`, or 0 outside of `s`.
 pub fn octet(s: &[u8], at: usize) -> usize
     ensures { result < 256 }
 {
-    if at < s.len() {
-        return octets::wide(s[at]);
-    }
-    0
+    s.get(at).map_or(0, |o| *o as usize)
 }
 
 // Reads the two octets of `s` from `at` on as a number, or answers 0 if they are not there.
 pub fn be16_or_0(s: &[u8], at: usize) -> usize
     ensures { result < 65536 }
 {
-    if at < s.len() {
-        if 2 <= s.len() - at {
-            return octets::numbers::be16_at(s, at);
-        }
+    if at < s.len() && 2 <= s.len() - at {
+        return octets::numbers::be16_at(s, at);
     }
     0
 }
 
 // Reads the four octets of `s` from `at` on as a number, or answers 0 if they are not there.
 pub fn be32_or_0(s: &[u8], at: usize) -> usize {
-    if at < s.len() {
-        if 4 <= s.len() - at {
-            return octets::numbers::be32_at(s, at) as usize;
-        }
+    if at < s.len() && 4 <= s.len() - at {
+        return octets::numbers::be32_at(s, at) as usize;
     }
     0
 }
@@ -67,11 +40,8 @@ pub fn end_at(s: &[u8], at: usize, to: usize, least: usize) -> usize
     requires { (at < to) × (0 < least) }
     ensures { (at < result) × (result ≤ to) }
 {
-    let n = be16_or_0(part(s, at, to), 2);
-    if n < least {
-        return to;
-    }
-    if to - at < n {
+    let n = be16_or_0(part(s, at, to), STRUCTURE_LENGTH_AT);
+    if n < least || to - at < n {
         return to;
     }
     at + n
@@ -89,10 +59,7 @@ pub fn attribute_end(s: &[u8], at: usize, to: usize) -> usize
             start: _,
             end,
         } => {
-            if end == 0 {
-                return to;
-            }
-            if to - at < end {
+            if end == 0 || to - at < end {
                 return to;
             }
             at + end
@@ -103,8 +70,5 @@ pub fn attribute_end(s: &[u8], at: usize, to: usize) -> usize
 
 // Whether the structure from `at` to `end` holds `stop`, the offset at which a layout breaks.
 pub fn holds(at: usize, stop: usize, end: usize) -> bool {
-    if at <= stop {
-        return stop < end;
-    }
-    false
+    at <= stop && stop < end
 }

@@ -16,6 +16,8 @@ use check_judging::number7::{Clauses7, clauses_7, number_7};
 use check_pairing::names::any_unpaired;
 use ikev2_numbers::EXCHANGE_AT;
 use state_keys::kinds::WrappingKey;
+use std::fmt;
+use std::fmt::Write;
 use wire_attributes::Layout;
 use wire_frames::exchanges::{Exchange, exchange_of};
 
@@ -84,11 +86,10 @@ fn of_frame(s: &[u8]) -> ClauseFound
     by_facts(row, x, policies, bags)
 }
 
-// Puts a line into `out` for each clause that applies to the frame `s`, or a line saying that none does. Puts nothing if the layout of `s`
-// is broken. Answers the place behind the lines, which start at `n`.
-pub fn applying(rt: &impl Print, out: &mut [u8], n: usize, s: &[u8]) -> usize {
+// Puts a line for each clause that applies to the frame `s`, or a line saying that none does. Puts nothing if the layout of `s` is broken.
+pub fn put_applying(w: &mut impl Write, s: &[u8]) -> fmt::Result {
     match wire_frames::frame_layout(s) {
-        Layout::Whole => text::lines(rt, out, n, of_frame(s)),
-        Layout::Broken(_) => n,
+        Layout::Whole => text::put_lines(w, of_frame(s)),
+        Layout::Broken(_) => Ok(()),
     }
 }

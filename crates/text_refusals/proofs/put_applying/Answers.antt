@@ -1,5 +1,5 @@
 use Rattle.text_refusals.proofs.WholeLaws.{is-whole}
-use Rattle.text_refusals.proofs.applying.Goals as goal
+use Rattle.text_refusals.proofs.put_applying.Goals as goal
 
 pub of_frame-requires : goal.of_frame-requires
 of_frame-requires g c =

@@ -1,8 +1,0 @@
-use Rattle.std.proofs.Common.{length, ◌≡◌, ◌-◌}
-use Rattle.show.proofs.frame.payloads.Given as goal
-
-abbrev pub invariant-loop-at : goal.invariant-loop-at
-invariant-loop-at g l = length l.out ≡ length l.initial.out
-
-abbrev pub decreases-loop-at : goal.decreases-loop-at
-decreases-loop-at g l = length l.s - l.at
