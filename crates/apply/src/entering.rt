@@ -17,20 +17,16 @@ pub fn enter_all(t: Table, new: [Sa; NEW_SAS], n: usize) -> Table
 {
     let mut sas = t.sas;
     let mut count = t.count;
-    let mut i = n;
-    while 0 < i {
-        i -= 1;
+    for i in (0..n).rev() {
         let mut carried = new[i];
         let mut placed = false;
-        let mut j: usize = 0;
-        while j < count {
+        for j in 0..count {
             let s = sas[j];
             if goes_ahead(placed, carried, s) {
                 sas[j] = carried;
                 carried = s;
                 placed = true;
             }
-            j += 1;
         }
         sas[count] = carried;
         count += 1;

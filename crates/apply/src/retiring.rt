@@ -17,14 +17,7 @@ use wire_readers::payload::payload_parts;
 fn is_zero(x: &[u8]) -> bool
     ensures { result ≡ is_zero x.now }
 {
-    let mut i: usize = 0;
-    while i < x.len() {
-        if x[i] != 0 {
-            return false;
-        }
-        i += 1;
-    }
-    true
+    x.iter().all(|o| *o == 0)
 }
 
 // Whether the Delete payload with the body `o` names the SA `a`. It can name ESP SAs only, and an SPI of zeros names all of them.
@@ -32,19 +25,13 @@ fn is_named(a: Sa, o: &[u8]) -> bool
     requires { delete_fits o.now ≡ true }
     ensures { result ≡ named_in (delete_of o.now).spis a }
 {
-    if a.protocol == ESP {
-        let d = delete_parts(o);
-        let n = d.count;
-        let mut i: usize = 0;
-        while i < n {
-            let x = spi_at(o, i);
-            if is_zero(x) {
-                return true;
-            }
-            if a.is_named(ESP, x) {
-                return true;
-            }
-            i += 1;
+    if a.protocol != ESP {
+        return false;
+    }
+    for i in 0..delete_parts(o).count {
+        let x = spi_at(o, i);
+        if is_zero(x) || a.is_named(ESP, x) {
+            return true;
         }
     }
     false
@@ -69,14 +56,11 @@ fn retire_spis(t: Table, o: &[u8], tick: u32, delay: u16) -> Table
     let count = t.count;
     let n = places(count);
     let mut sas = t.sas;
-    let mut i: usize = 0;
-    while i < n {
+    for i in 0..n {
         let a = sas[i];
         if is_named(a, o) {
-            let b = a.retire(tick, delay);
-            sas[i] = b;
+            sas[i] = a.retire(tick, delay);
         }
-        i += 1;
     }
     Table { sas, count }
 }

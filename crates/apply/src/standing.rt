@@ -12,12 +12,11 @@ use state_table::Table;
 fn retire_old(a: Sa, new: bool, tick: u32, delay: u16) -> Sa
     ensures { result ≡ retired_if (outdated new) tick delay a }
 {
-    if new {
-        if a.protocol == REKEY {
-            return a.retire(tick, delay);
-        }
+    if new && a.protocol == REKEY {
+        a.retire(tick, delay)
+    } else {
+        a
     }
-    a
 }
 
 // Drops the SAs of `t` that are due at `tick`. Retires the old Rekey SA if `new` says that there is a new one.
@@ -28,15 +27,11 @@ pub fn keep_standing(t: Table, new: bool, tick: u32, delay: u16) -> Table
     let n = t.count;
     let mut out = [Sa::blank(); SAS];
     let mut k: usize = 0;
-    let mut i: usize = 0;
-    while i < n {
-        let a = t.sas[i];
-        if a.due(tick) {} else {
-            let b = retire_old(a, new, tick, delay);
-            out[k] = b;
+    for a in &t.sas[..n] {
+        if !a.due(tick) {
+            out[k] = retire_old(*a, new, tick, delay);
             k += 1;
         }
-        i += 1;
     }
     Table { sas: out, count: k }
 }

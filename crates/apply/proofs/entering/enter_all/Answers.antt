@@ -1,7 +1,6 @@
 use native.Mathlib.Omega.{arith}
 use Prim.Native.Nat.{ℕ, ◌+◌, ◌-◌, ◌≤◌, ◌<◌}
 use mathlib.Core.Path.{◌≡◌, sym, ap, ◌∙◌}
-use mathlib.Core.Logic.{⊎_elim}
 use lib.ListN.{length, take, drop, set, length-take, length-set}
 use Rattle.state_keys.specs.Limits.{limits}
 use Rattle.lists.proofs.Lists.{length-of-map}
@@ -14,6 +13,7 @@ use Rattle.apply.proofs.TableLaws.{none-entered, some-entered, one-entered, ente
 use Rattle.apply.proofs.Turns.{moving-start, moving-ahead, moving-aside, moving-end}
 use borrow.Author.Rules.{rules}
 use Rattle.apply.proofs.entering.enter_all.Goals as goal
+use Rattle.apply.proofs.entering.enter_all.Goals.{then-goes_ahead, else-goes_ahead}
 
 pub loop-i-init : goal.loop-i-init
 loop-i-init c =
@@ -31,9 +31,6 @@ loop-j-init c =
     let v = c.loop-i.invariant in
     (v.3, omega (arith, v.4), omega arith, moving-start sa_before _ _ _)
 
-pub bounds-sas-j-then-goes_ahead : goal.bounds-sas-j-then-goes_ahead
-bounds-sas-j-then-goes_ahead c = let v = c.loop-j.invariant in omega (arith, v.1, v.2)
-
 pub loop-j-preserved : goal.loop-j-preserved
 loop-j-preserved c =
     let l = c.loop-j in
@@ -41,34 +38,20 @@ loop-j-preserved c =
     let v = l.invariant in
     let h : k.count < length k.sas = omega (arith, v.0, v.1) in
     let f = c.goes_ahead.ensures in
-    ⊎_elim
-    (λ w.
-    rw (w.sas-is, w.carried-is, w.placed-is) (
-      v.0,
-      v.1,
-      omega arith,
-      moving-ahead sa_before k.sas k.count _ h l.sas l.carried l.placed l.j v.3 _ (omega arith) (sym w.if-goes_ahead.true ∙ f),
-    ))
-    (λ w.
-    rw (w.sas-is, w.carried-is, w.placed-is) (
-      v.0,
-      v.1,
-      omega arith,
-      moving-aside sa_before k.sas k.count _ h l.sas l.carried l.placed l.j v.3 _ (omega arith) (sym w.if-goes_ahead.false ∙ f),
-    ))
-    c.if-goes_ahead.branch-raw
-
-pub offset_bounds-sas-count : goal.offset_bounds-sas-count
-offset_bounds-sas-count c = let v = c.loop-j.invariant in record { fits = omega (arith, v.1) }
-
-pub bounds-sas-count : goal.bounds-sas-count
-bounds-sas-count c = c.loop-j.invariant.1
-
-pub overflow_add-count : goal.overflow_add-count
-overflow_add-count c = let v = c.loop-j.invariant in record { fits = omega (arith, v.1) }
-
-pub loop-i-smaller : goal.loop-i-smaller
-loop-i-smaller c = omega arith
+    elim c.if-goes_ahead.branch [
+      | then-goes_ahead w ↦ rw (w.sas-is, w.carried-is, w.placed-is) (
+        v.0,
+        v.1,
+        omega arith,
+        moving-ahead sa_before k.sas k.count _ h l.sas l.carried l.placed l.j v.3 _ (omega arith) (sym w.if-goes_ahead.true ∙ f),
+      )
+      | else-goes_ahead w ↦ rw (w.sas-is, w.carried-is, w.placed-is) (
+        v.0,
+        v.1,
+        omega arith,
+        moving-aside sa_before k.sas k.count _ h l.sas l.carried l.placed l.j v.3 _ (omega arith) (sym w.if-goes_ahead.false ∙ f),
+      )
+    ]
 
 pub loop-i-preserved : goal.loop-i-preserved
 loop-i-preserved c =

@@ -1,6 +1,4 @@
-use Prim.Native.Nat.{◌+◌, ◌-◌, ◌≤◌, ◌<◌}
-use mathlib.Core.Path.{◌≡◌}
-use lib.ListN.{length, take, drop}
+use Rattle.std.proofs.Common.{◌≡◌, ◌+◌, ◌<◌, ◌≤◌, length, take, drop}
 use Rattle.state_keys.specs.Limits.{limits}
 use Rattle.state_sa.specs.Entry.{sa_before}
 use Rattle.state_table.specs.Table.{table_of}
@@ -10,15 +8,11 @@ use Rattle.apply.proofs.entering.enter_all.Given as goal
 
 abbrev pub invariant-loop-j : goal.invariant-loop-j
 invariant-loop-j l =
-    (length l.initial.sas ≡ limits.sas) × (l.count < limits.sas) × (l.j ≤ l.count) × Moving sa_before l.initial.sas l.count l.initial.carried l.sas l.carried l.placed l.j
-
-abbrev pub decreases-loop-j : goal.decreases-loop-j
-decreases-loop-j l = l.count - l.j
+    (length l.initial.sas ≡ limits.sas) × (l.count < limits.sas) × (l.j ≤ l.count) ×
+    Moving sa_before l.initial.sas l.count l.initial.carried l.sas l.carried l.placed l.j
 
 abbrev pub invariant-loop-i : goal.invariant-loop-i
 invariant-loop-i l =
-    (l.i ≤ l.n) × (l.n ≤ length l.new) × (length (take l.initial.count l.initial.sas) + l.n ≤ limits.sas) × (length l.sas ≡ limits.sas) × (l.count + l.i ≤ limits.sas)
-    × (record { sas = l.sas; count = l.count } ≡ table_of limits (insert_all (drop l.i (take l.n l.new)) (take l.initial.count l.initial.sas)))
-
-abbrev pub decreases-loop-i : goal.decreases-loop-i
-decreases-loop-i l = l.i
+    (l.i ≤ l.n) × (l.n ≤ length l.new) × (length (take l.initial.count l.initial.sas) + l.n ≤ limits.sas) ×
+    (length l.sas ≡ limits.sas) × (l.count + l.i ≤ limits.sas) ×
+    (record { sas = l.sas; count = l.count } ≡ table_of limits (insert_all (drop l.i (take l.n l.new)) (take l.initial.count l.initial.sas)))

@@ -1,4 +1,3 @@
-use Prim.Native.Nat.{◌-◌, ◌≤◌}
 use mathlib.Core.Path.{◌≡◌}
 use lib.ListN.{length}
 use Rattle.state_keys.specs.Limits.{limits}
@@ -10,8 +9,5 @@ use Rattle.apply.proofs.retiring.retire_spis.Given as goal
 
 abbrev pub invariant-loop-i : goal.invariant-loop-i
 invariant-loop-i l =
-    (l.n ≤ limits.sas) × (length l.initial.sas ≡ limits.sas) × (length l.sas ≡ limits.sas) × (l.i ≤ l.n)
-    × Turned (retired_if (named_in (delete_of l.o).spis) l.tick l.delay) l.initial.sas l.sas l.i
-
-abbrev pub decreases-loop-i : goal.decreases-loop-i
-decreases-loop-i l = l.n - l.i
+    (length l.initial.sas ≡ limits.sas) × (length l.sas ≡ limits.sas) ×
+    Turned (retired_if (named_in (delete_of l.o).spis) l.tick l.delay) l.initial.sas l.sas l.i
