@@ -11,6 +11,7 @@ use Rattle.state_table.specs.inner.Changes.{standing_count}
 use Rattle.state.specs.declared.State.{State}
 use Rattle.wire_frames.specs.Frame.{Frame, frame}
 use Rattle.wire_frames.specs.declared.exchanges.Exchange.{Exchange}
+use Rattle.wire_readers.specs.inner.Values.{is_whole}
 use Rattle.wire_readers.specs.inner.Policies.{policies_in}
 use Rattle.wire_readers.specs.inner.Bags.{bags_in}
 use Rattle.rules_refusals.specs.Contents.{row_of, policies_of, bags_of}
@@ -19,6 +20,7 @@ use Rattle.check_payloads.specs.declared.PayloadFacts.{PayloadFacts}
 use Rattle.check_payloads.specs.declared.deletion.Deletes.{Deletes}
 use Rattle.check_payloads.specs.inner.Facts.{payload_facts_of as payloadFacts}
 use Rattle.check_payloads.proofs.FoundLaws.{OfFrame, facts-of}
+use Rattle.check_payloads.proofs.FrameLaws.{reads-to}
 use Rattle.check_composition.specs.declared.PolicyFacts.{PolicyFacts}
 use Rattle.check_composition.specs.inner.Facts.{policy_facts_of as policyFacts}
 use Rattle.check_bagkeys.specs.declared.BagFacts.{BagFacts}
@@ -75,6 +77,16 @@ module _ (state : State) (tick : ℕ) (lent s : List ℕ) (few : state.table.cou
       → OfFrame (state.profile && row.reads_fresh_keys) s f x.payloads
   its-payloads f q e =
       subst (λ (r : Exchange). OfFrame (state.profile && r.reads_fresh_keys) s f b) e (facts-of state.profile s b bodies-are f q)
+
+  -- the bodies of the frame that the octets are
+  module _ (whole-so : is_whole (frame state.profile s) ≡ true)
+      (v : (f : Frame) → frame state.profile s ≡ whole f [] → row_of f ≡ row) where
+    pub own : OfFrame (state.profile && row.reads_fresh_keys) s (reads-to state.profile s whole-so).0 x.payloads
+    own = let f = reads-to state.profile s whole-so in its-payloads f.0 f.1 (v f.0 f.1)
+
+    pub own-names : ((l : List Name) × Names (at s x.payloads.gsa) l) × ((m : List Name) × Names (at s x.payloads.kd) m)
+        × (state.table.count ≤ limits.sas)
+    own-names = ((_, policy-names _ own.gsa_whole), (_, bag-names _ _ own.kd_whole), few)
 
   -- ---- each number of a frame that reads so
   module _ (f : Frame) (q : frame state.profile s ≡ whole f []) (e : row_of f ≡ row) where

@@ -7,4 +7,3 @@ pub mod Number5Laws
 pub mod Number6Laws
 pub mod FrameLaws
 pub mod MemberLaws
-pub mod VerdictLaws

@@ -7,4 +7,5 @@ pub mod number4;
 pub mod number5;
 pub mod number6;
 pub mod number7;
+pub mod numbers;
 pub mod refusal;

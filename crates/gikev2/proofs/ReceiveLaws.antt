@@ -6,10 +6,7 @@ use mathlib.Core.List.{List, [], ◌∷◌}
 use mathlib.Core.Bool.{Bool}
 use lib.ListN.{get_or}
 use Rattle.octets.specs.Walk.{Reading, whole, broken}
-use borrow.Author.Tests.{ltb-true, ltb-false}
-use lib.Dec.{ltb}
 use Rattle.state_keys.specs.Limits.{limits}
-use Rattle.lists.proofs.Cases.{bool_cases}
 use Rattle.wire_attributes.specs.Answers.{layout_of}
 use Rattle.wire_attributes.specs.declared.Layout.{Layout}
 use Rattle.wire_attributes.specs.declared.Layout.TheVariants as layout
@@ -17,6 +14,9 @@ use Rattle.wire_frames.specs.Frame.{Frame, frame, frame_layout, offset_of, figur
 use Rattle.wire_frames.proofs.FrameGrammar.{read-frame, frame-read}
 use Rattle.state.specs.declared.State.{State}
 use Rattle.rules_refusals.specs.Refusals.{refusal}
+use Rattle.check_judging.specs.inner.Verdicts.{number_of_refusal}
+use Rattle.check_judging.specs.declared.numbers.Refusal.{Refusal}
+use Rattle.receive.proofs.DecidingLaws.{positive}
 use Rattle.rules_outcome.specs.Outcome.{Judged, refused, Outcome}
 use Rattle.rules_outcome.proofs.Answering.{answers-clauses}
 use Rattle.rules_outcome.proofs.Demands.{one-of-the-numbers, one-exactly}
@@ -44,23 +44,9 @@ module _ (m : State) (now : ℕ) (lent : List ℕ) (f : Frame) where
   judged-clauses zero e d = absurd (d refl)
   judged-clauses (suc n) e d = refused n (answers-clauses limits m now lent f n (sym e))
 
-  -- the answer has the number that was judged, and the member the state
-  pub judged-as : (n k : ℕ) (next after : State) → k ≡ n → after ≡ next → Judged limits m now lent f n next →
-      Judged limits m now lent f k after
-  judged-as n k next after e g j =
-      subst (λ (x : State). Judged limits m now lent f k x) (sym g) (subst (λ (x : ℕ). Judged limits m now lent f x next) (sym e) j)
-
--- ---- the last of them
-beyond : (k n : ℕ) → k ≤ n → (n ≡ k → ⊥) → suc k ≤ n
-beyond k n h d =
-    bool_cases (ltb k n) (λ e. let g = ltb-true k n e in omega arith) (λ e. let g = ltb-false k n e in absurd (d (omega arith)))
-
-pub is-number9 : (n : ℕ) → n ≤ 9 → (n ≡ 0 → ⊥) → (n ≡ 1 → ⊥) → (n ≡ 2 → ⊥) → (n ≡ 3 → ⊥) → (n ≡ 4 → ⊥) → (n ≡ 5 → ⊥) → (n ≡ 6 → ⊥) →
-    (n ≡ 7 → ⊥) → (n ≡ 8 → ⊥) → 9 ≡ n
-is-number9 n h a b c d e f g i j =
-    let x : 5 ≤ n = beyond 4 n (beyond 3 n (beyond 2 n (beyond 1 n (beyond 0 n (omega arith) a) b) c) d) e in
-    let y : 9 ≤ n = beyond 8 n (beyond 7 n (beyond 6 n (beyond 5 n x f) g) i) j in
-    omega arith
+  pub judged-refused : (r : Refusal) → refusal limits m now lent f ≡ number_of_refusal r →
+      Judged limits m now lent f (number_of_refusal r) m
+  judged-refused r e = judged-clauses (number_of_refusal r) (sym e) (λ z. let p = positive r in omega arith)
 
 -- ---- a layout is whole of a tree, or broken
 abbrev code_of : Layout → ℕ
@@ -146,6 +132,13 @@ module _ (m : Member) (now : ℕ) (lent octets : List ℕ) where
             other-figure a (judged-numbered m.state now lent f octets e (number_of a) next.state j).1
             ∙ sym (figure-is m.state.profile octets (whole f []) e);
       }
+
+  -- numbers 2 to 9 refuse it
+  pub receives-refused : (f : Frame) → frame m.state.profile octets ≡ whole f [] → (r : Refusal) →
+      Judged limits m.state now lent f (number_of_refusal r) m.state → (b : Answer) → number_of b ≡ number_of_refusal r →
+      (a : Answer) (next : Member) → a ≡ b → next ≡ m → Receives m now lent octets a next
+  receives-refused f e r j b g a next p q =
+      receives-tree f e a next (rw (p, g, q) j)
 
   -- "Every public call's promise determines its answer and the member .. after it, also on refusal, for all inputs"
   pub receives-one : (a b : Answer) (next after : Member) → Receives m now lent octets a next → Receives m now lent octets b after →

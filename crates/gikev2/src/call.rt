@@ -1,22 +1,20 @@
 // Receives an opened frame.
-ghost use Rattle.std.specs.Prelude.{◌≡◌, [], ◌≤◌};
+ghost use Rattle.std.specs.Prelude.{◌≡◌, []};
 ghost use Rattle.octets.specs.Walk.{whole};
-ghost use Rattle.state_keys.specs.Limits.{limits};
 ghost use Rattle.wire_frames.specs.Frame.{Frame, frame};
-ghost use Rattle.wire_readers.specs.inner.Values.{is_whole};
-ghost use Rattle.rules_outcome.specs.Outcome.{Judged};
-ghost use Rattle.receive.specs.inner.Passing.{Passed};
+ghost use Rattle.check_judging.specs.inner.Verdicts.{number_of_refusal};
+ghost use Rattle.receive.specs.inner.Passing.{Decided};
 ghost use Rattle.gikev2.specs.Receive.{number_of, figure_of, Receives};
 
 use crate::Member;
-use check_judging::facts::Facts;
-use check_judging::refusal::Verdict;
+use check_judging::numbers::Refusal;
+use check_judging::refusal::refusal;
 use receive::deciding::decide;
 use state::State;
 use wire_attributes::Layout;
 
-// What becomes of a frame.
-#[derive(Clone, Copy)]
+// What becomes of a frame. Kept as one list and not a `Result`: document 01 numbers acceptance among the answers, as 0.
+#[derive(Clone, Copy, Debug, PartialEq, Eq)]
 pub enum Answer {
     Accepted,
     // the octets are not laid out as a frame; the offset of the structure that broke first, 0 for the header
@@ -67,17 +65,8 @@ impl Answer {
         ensures { result ≡ figure_of self }
     {
         match self {
-            Answer::Accepted => 0,
             Answer::BrokenLayout(at) => at,
-            Answer::NotForMember => 0,
-            Answer::Replayed => 0,
-            Answer::BadComposition => 0,
-            Answer::Unsupported => 0,
-            Answer::Unpaired => 0,
-            Answer::OverLimit => 0,
-            Answer::KeyConflict => 0,
-            Answer::NoKey => 0,
-            Answer::Unopened => 0,
+            _ => 0,
         }
     }
 }
@@ -89,32 +78,31 @@ pub struct Received {
     pub member: Member,
 }
 
-// Makes the answer with this `number`. It is not 1: the layout of the frame is whole.
-fn answer_of(number: usize) -> Answer
-    requires { (number ≤ 9) × (number ≡ 1 → ⊥) }
-    ensures { number_of result ≡ number }
-{
-    match number {
-        0 => Answer::Accepted,
-        2 => Answer::NotForMember,
-        3 => Answer::Replayed,
-        4 => Answer::BadComposition,
-        5 => Answer::Unsupported,
-        6 => Answer::Unpaired,
-        7 => Answer::OverLimit,
-        8 => Answer::KeyConflict,
-        _ => Answer::NoKey,
+// Answers document 01's number of the refusal.
+impl From<Refusal> for Answer {
+    ghost from_gives = { λ r a. number_of a ≡ number_of_refusal r };
+
+    fn from(refusal: Refusal) -> Answer {
+        match refusal {
+            Refusal::NotForMember => Answer::NotForMember,
+            Refusal::Replayed => Answer::Replayed,
+            Refusal::BadComposition => Answer::BadComposition,
+            Refusal::Unsupported => Answer::Unsupported,
+            Refusal::Unpaired => Answer::Unpaired,
+            Refusal::OverLimit => Answer::OverLimit,
+            Refusal::KeyConflict => Answer::KeyConflict,
+            Refusal::NoKey => Answer::NoKey,
+        }
     }
 }
 
-// Makes the answer with this `number`, and the member with this `state`.
-fn make_received(number: usize, state: State) -> Received
-    requires { (number ≤ 9) × (number ≡ 1 → ⊥) }
-    ensures { (number_of result.answer ≡ number) × (result.member.state ≡ state) }
+// Judges the frame `s`, whose layout is whole: refusals 2 to 7 first, then 8 and 9. Answers the state after acceptance.
+fn judge(state: State, s: &[u8], lent: &[u8], tick: u32) -> Result<State, Refusal>
+    requires { (f : Frame) × (frame state.profile s.now ≡ whole f []) }
+    ensures { (f : Frame) → frame state.profile s.now ≡ whole f [] → Decided state tick lent.now f result }
 {
-    let answer = answer_of(number);
-    let member = Member { state };
-    Received { answer, member }
+    let x = refusal(state, s, lent, tick)?;
+    decide(state, s, x, lent, tick)
 }
 
 impl Member {
@@ -128,33 +116,6 @@ impl Member {
         }
     }
 
-    // Decides the frame `s` that refusals 2 to 7 let pass. `x` are its facts.
-    fn decide_frame(self, s: &[u8], x: Facts, lent: &[u8], tick: u32) -> Received
-        requires { (f : Frame) × Passed self.state tick lent.now s.now x f }
-        ensures { (f : Frame) → Passed self.state tick lent.now s.now x f →
-            Judged limits self.state tick lent.now f (number_of result.answer) result.member.state }
-    {
-        let state = self.state;
-        let next = decide(state, s, x, lent, tick);
-        make_received(next.number, next.state)
-    }
-
-    // Judges the frame `s`, whose layout is whole: refusals 2 to 7 first, then 8 and 9.
-    fn judge(self, s: &[u8], lent: &[u8], tick: u32) -> Received
-        requires { (f : Frame) × (frame self.state.profile s.now ≡ whole f []) }
-        ensures { (f : Frame) → frame self.state.profile s.now ≡ whole f [] →
-            Judged limits self.state tick lent.now f (number_of result.answer) result.member.state }
-    {
-        let state = self.state;
-        match check_judging::refusal::refusal(state, s, lent, tick) {
-            Verdict::Refused(number) => {
-                let answer = answer_of(number);
-                self.refuse(answer)
-            }
-            Verdict::Passed(x) => self.decide_frame(s, x, lent, tick),
-        }
-    }
-
     // Receives the octets of an opened `frame`: the IKE header and the payloads. A registration (GSA_AUTH, GSA_REGISTRATION) comes with a
     // default key in `lent`, and so does a rekey over the member's own channel (GSA_INBAND_REKEY). For a rekey over the Rekey SA
     // (GSA_REKEY) `lent` is not read.
@@ -163,8 +124,14 @@ impl Member {
     {
         let state = self.state;
         match wire_frames::layout_with_profile(state.profile, frame) {
-            Layout::Whole => self.judge(frame, lent, tick),
             Layout::Broken(at) => self.refuse(Answer::BrokenLayout(at)),
+            Layout::Whole => match judge(state, frame, lent, tick) {
+                Ok(next) => Received {
+                    answer: Answer::Accepted,
+                    member: Member { state: next },
+                },
+                Err(refusal) => self.refuse(refusal.into()),
+            },
         }
     }
 }

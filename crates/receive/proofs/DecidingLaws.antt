@@ -1,7 +1,7 @@
--- A frame whose keys are opened: the number by which they refuse it, or what is known of it.
+-- A frame whose keys are opened: the refusal that they give it, or what is known of it.
 use Prim.Native.Nat.{ℕ, ◌<◌}
 use native.Mathlib.Omega.{arith}
-use mathlib.Core.Path.{◌≡◌, refl, sym, subst, ◌∙◌}
+use mathlib.Core.Path.{◌≡◌, refl, sym, subst}
 use mathlib.Core.Bool.{Bool, true, false}
 use mathlib.Core.List.{List}
 use Rattle.state_keys.specs.Limits.{limits}
@@ -11,12 +11,25 @@ use Rattle.rules_chains.specs.Refusals.{EntriesConflict}
 use Rattle.unwrap_conflicts.specs.inner.Values.{Decides}
 use Rattle.rules_outcome.specs.Roots.{roots_of, entries_of, wrapping_size}
 use Rattle.rules_outcome.specs.Outcome.{Judged}
+use Rattle.check_judging.specs.inner.Verdicts.{number_of_refusal}
 use Rattle.check_judging.specs.declared.facts.Facts.{Facts}
+use Rattle.check_judging.specs.declared.numbers.Refusal.{Refusal}
+use Rattle.check_judging.specs.declared.numbers.Refusal.TheVariants as refusal
 use Rattle.receive.specs.declared.opening.KeysFound.{KeysFound}
 use Rattle.unwrap_sas.specs.declared.joining.SasFound.{SasFound}
 use Rattle.unwrap_sas.specs.declared.joining.SasFound.TheVariants as found
 use Rattle.receive.specs.inner.Opening.{FrameWithKeys, number_of_keys}
 use Rattle.receive.proofs.ConcludingLaws.{conflict-of-entries, KeysKnown, by-conflict, by-missing, by_over}
+
+pub positive : (u : Refusal) → 0 < number_of_refusal u
+positive refusal.NotForMember = omega arith
+positive refusal.Replayed = omega arith
+positive refusal.BadComposition = omega arith
+positive refusal.Unsupported = omega arith
+positive refusal.Unpaired = omega arith
+positive refusal.OverLimit = omega arith
+positive refusal.KeyConflict = omega arith
+positive refusal.NoKey = omega arith
 
 module _ {m : State} {now : ℕ} {lent s : List ℕ} {x : Facts} {f : Frame} (r : KeysFound) (o : FrameWithKeys m now lent s x r f) where
   tells : (y : Bool) → r.conflict ≡ y →
@@ -37,10 +50,11 @@ module _ {m : State} {now : ℕ} {lent s : List ℕ} {x : Facts} {f : Frame} (r 
   refused-by false e found.Keys g false h k = absurd (omega arith)
 
   -- the keys refuse the frame
-  pub refuses : (n : ℕ) → n ≡ number_of_keys r.conflict r.keyed.found r.over → 0 < n → Judged limits m now lent f n m
-  refuses n q k =
-      subst (λ (z : ℕ). Judged limits m now lent f z m) (sym q)
-      (refused-by r.conflict refl r.keyed.found refl r.over refl (subst (λ (z : ℕ). 0 < z) q k))
+  pub refuses : (u : Refusal) → number_of_keys r.conflict r.keyed.found r.over ≡ number_of_refusal u →
+      Judged limits m now lent f (number_of_refusal u) m
+  refuses u q =
+      subst (λ (z : ℕ). Judged limits m now lent f z m) q
+      (refused-by r.conflict refl r.keyed.found refl r.over refl (subst (λ (z : ℕ). 0 < z) (sym q) (positive u)))
 
 -- the keys do not refuse it
 pub record Opens (r : KeysFound) : Type 0 where
@@ -57,5 +71,5 @@ module _ (r : KeysFound) where
   opens_by false e found.Keys g true h k = absurd (omega arith)
   opens_by false e found.Keys g false h k = record { fit = e; each = g; room = h }
 
-  pub opens : (n : ℕ) → n ≡ number_of_keys r.conflict r.keyed.found r.over → n ≡ 0 → Opens r
-  opens n q z = opens_by r.conflict refl r.keyed.found refl r.over refl (sym q ∙ z)
+  pub opens : number_of_keys r.conflict r.keyed.found r.over ≡ 0 → Opens r
+  opens z = opens_by r.conflict refl r.keyed.found refl r.over refl z

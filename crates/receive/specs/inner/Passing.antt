@@ -1,5 +1,5 @@
 -- A frame that numbers 2 to 7 let pass, and what its keys come to.
-use Rattle.std.specs.Prelude.{ℕ, ◌≤◌, ◌≡◌, Bool, true, false, ◌&&◌}
+use Rattle.std.specs.Prelude.{ℕ, ◌≤◌, ◌≡◌, Bool, true, false, ◌&&◌, Result, Ok, Err}
 use mathlib.Core.List.{List, [], Memᴰ}
 use Rattle.octets.specs.Walk.{whole}
 use Rattle.state_keys.specs.Limits.{limits}
@@ -26,8 +26,11 @@ use Rattle.rules_refusals.specs.Refusals.{refusal}
 use Rattle.rules_chains.specs.Chain.{In, Root, CopyOpens}
 use Rattle.rules_outcome.specs.Roots.{copies_of}
 use Rattle.rules_outcome.specs.Holding.{HeldAfterwards, OverHeldOf}
+use Rattle.rules_outcome.specs.Outcome.{Judged}
 use Rattle.check_judging.specs.inner.Facts.{frame_facts_of}
+use Rattle.check_judging.specs.inner.Verdicts.{number_of_refusal}
 use Rattle.check_judging.specs.declared.facts.Facts.{Facts}
+use Rattle.check_judging.specs.declared.numbers.Refusal.{Refusal}
 use Rattle.unwrap_tree.specs.inner.Entries.{HoldsEntries}
 
 -- s are the octets of the frame f, none of numbers 2 to 7 applies to it, and x are its facts
@@ -76,3 +79,8 @@ EachHasCopy roots entries size f = (a : GroupSaPolicy) → In a (announced f) �
 pub record IsDefaultKey (t : Table) (r : WrappingKey) : Type 0 where
   pub is : r ≡ (default_key limits t).key
   pub fits : is_wrapping_size r.count ≡ true
+
+-- the outcome of the frame f: the state after acceptance, or the refusal with the number that is judged
+abbrev pub Decided : State → ℕ → List ℕ → Frame → Result State Refusal → Type 0
+Decided m now lent f (Ok next) = Judged limits m now lent f 0 next
+Decided m now lent f (Err r) = Judged limits m now lent f (number_of_refusal r) m
