@@ -13,16 +13,11 @@ use state_table::Table;
 use wire_frames::exchanges::{Exchange, Wanted};
 
 // Whether `s` is a live Rekey SA with SPI `spi` and not due at `tick`.
+#[tactic(auto, unfolding(crate::specs::inner::Steps::is_over))]
 fn is_over(s: Sa, spi: &[u8], tick: u32) -> bool
     ensures { result ≡ is_over tick spi.now s }
 {
-    if s.due(tick) {
-        return false;
-    }
-    if s.is_live_rekey() {
-        return s.is_named(REKEY, spi);
-    }
-    false
+    !s.due(tick) && s.is_live_rekey() && s.is_named(REKEY, spi)
 }
 
 // Whether table `t` has a live Rekey SA with SPI `spi` that is not due at `tick`.
@@ -31,15 +26,7 @@ fn has_live_rekey(t: Table, spi: &[u8], tick: u32) -> bool
     ensures { result ≡ any (over_live_rekey spi.now) (not_due tick (sas_of t)) }
 {
     let n = t.count;
-    let mut i: usize = 0;
-    while i < n {
-        let s = t.sas[i];
-        if is_over(s, spi, tick) {
-            return true;
-        }
-        i += 1;
-    }
-    false
+    t.sas[..n].iter().any(|s| is_over(*s, spi, tick))
 }
 
 // Whether table `t` breaks `wanted` at `tick`: the exchange wants it empty, not empty, or takes either.
@@ -47,12 +34,7 @@ fn breaks_wanted(wanted: Wanted, t: Table, tick: u32) -> bool
     ensures { result ≡ breaks_wanted wanted (empty_at limits tick t) }
 {
     match wanted {
-        Wanted::Empty => {
-            if t.is_empty(tick) {
-                return false;
-            }
-            true
-        }
+        Wanted::Empty => !t.is_empty(tick),
         Wanted::NotEmpty => t.is_empty(tick),
         Wanted::Any => false,
     }
@@ -60,24 +42,13 @@ fn breaks_wanted(wanted: Wanted, t: Table, tick: u32) -> bool
 
 // Whether number 2 applies where the member value keeps its list. `t` is its table, `x` the row of the frame's exchange, `spi` the header's
 // two SPIs.
+#[tactic(auto, unfolding(crate::specs::inner::Steps::barred))]
 fn is_barred(t: Table, x: Exchange, spi: &[u8], tick: u32) -> bool
     requires { t.count ≤ limits.sas }
     ensures { result ≡ barred limits t x spi.now tick }
 {
-    if x.admitted {} else {
-        return true;
-    }
     let w = x.wanted;
-    if breaks_wanted(w, t, tick) {
-        return true;
-    }
-    if x.compares_spis {
-        if has_live_rekey(t, spi, tick) {
-            return false;
-        }
-        return true;
-    }
-    false
+    !x.admitted || breaks_wanted(w, t, tick) || x.compares_spis && !has_live_rekey(t, spi, tick)
 }
 
 // Whether number 2 applies, for `state` at `tick`, to a frame with exchange type `exchange` and the header's two SPIs `spi`. It always does
@@ -85,10 +56,7 @@ fn is_barred(t: Table, x: Exchange, spi: &[u8], tick: u32) -> bool
 pub fn number_2(state: State, exchange: usize, spi: &[u8], tick: u32) -> bool
     ensures { result ≡ applies (number2 limits state tick exchange spi.now) }
 {
-    if state.is_formed() {
-        let t = state.table;
-        let x = wire_frames::exchanges::exchange_of(exchange);
-        return is_barred(t, x, spi, tick);
-    }
-    true
+    let t = state.table;
+    let x = wire_frames::exchanges::exchange_of(exchange);
+    !state.is_formed() || is_barred(t, x, spi, tick)
 }

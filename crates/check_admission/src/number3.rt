@@ -9,12 +9,6 @@ pub fn number_3(state: State, exchange: usize, id: u32) -> bool
     ensures { result ≡ applies (number3 state exchange id) }
 {
     let x = wire_frames::exchanges::exchange_of(exchange);
-    if x.compares_message_id {
-        let least = state.least;
-        if least.accepts(id) {
-            return false;
-        }
-        return true;
-    }
-    false
+    let least = state.least;
+    x.compares_message_id && !least.accepts(id)
 }

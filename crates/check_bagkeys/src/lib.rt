@@ -22,7 +22,7 @@ use wire_readers::Stretch;
 use wrapped::KeyFacts;
 
 // The facts of the key bags of a KD payload.
-#[derive(Clone, Copy)]
+#[derive(Clone, Copy, Default)]
 pub struct BagFacts {
     // the numbers of Member Key Bags and of WRAP_KEYs
     pub members: usize,
@@ -59,33 +59,15 @@ pub struct KdFacts {
 fn no_bags() -> BagFacts
     ensures { result ≡ no_bags }
 {
-    BagFacts {
-        members: 0,
-        wraps: 0,
-        unnamed: false,
-        itself: false,
-        ah: false,
-        keyless: false,
-        several: false,
-        several_of_rekey: false,
-        overfull: false,
-        named: false,
-        esp_with_kwk_id: false,
-        fresh: 0,
-        fresh_unnamed: false,
-        fresh_itself: false,
-    }
+    BagFacts::default()
 }
 
 // Answers the facts of a Group Key Bag of protocol `protocol`. `k` are the facts of its SA_KEYs, `e` those of its fresh keys.
 fn of_group(protocol: usize, k: KeyFacts, e: KeyFacts) -> BagFacts
     ensures { result ≡ of_group limits protocol k e }
 {
+    // `unnamed` and `itself` stay as they are of no bag: they are asked of a WRAP_KEY alone
     BagFacts {
-        members: 0,
-        wraps: 0,
-        unnamed: false, // asked of a WRAP_KEY alone
-        itself: false, // likewise
         ah: protocol == AH,
         keyless: k.keys == 0,
         several: (protocol != GIKE_UPDATE) & (1 < k.keys),
@@ -96,6 +78,7 @@ fn of_group(protocol: usize, k: KeyFacts, e: KeyFacts) -> BagFacts
         fresh: e.keys,
         fresh_unnamed: e.unnamed,
         fresh_itself: e.itself,
+        ..no_bags()
     }
 }
 
@@ -108,16 +91,7 @@ fn of_member(k: KeyFacts) -> BagFacts
         wraps: k.keys,
         unnamed: k.unnamed,
         itself: k.itself,
-        ah: false,
-        keyless: false,
-        several: false,
-        several_of_rekey: false,
-        overfull: false,
-        named: false,
-        esp_with_kwk_id: false,
-        fresh: 0,
-        fresh_unnamed: false,
-        fresh_itself: false,
+        ..no_bags()
     }
 }
 
@@ -156,14 +130,9 @@ fn fresh_of(fresh: bool, place: Place, a: &[u8]) -> KeyFacts
         (result ≡ key_facts_of (values_in meaning.FreshKey place a.now)) × (result.keys ≤ length a.now) }
 {
     if fresh {
-        return wrapped::keys_of(Meaning::FreshKey, place, a);
-    }
-    KeyFacts {
-        keys: 0,
-        named: false,
-        unnamed: false,
-        with_kwk_id: false,
-        itself: false,
+        wrapped::keys_of(Meaning::FreshKey, place, a)
+    } else {
+        KeyFacts::default()
     }
 }
 
@@ -187,10 +156,11 @@ fn of_bag(fresh: bool, first: usize, a: &[u8]) -> BagFacts
 fn first_member(first: usize, here: Stretch, known: Stretch) -> Stretch
     ensures { result ≡ first_member first here known }
 {
-    if (first == NO_PROTOCOL) & (known.end == 0) {
-        return here;
+    if first == NO_PROTOCOL && known.end == 0 {
+        here
+    } else {
+        known
     }
-    known
 }
 
 // Collects the facts of KD body `kd`.

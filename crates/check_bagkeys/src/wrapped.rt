@@ -11,7 +11,7 @@ use wire_readers::values::next_attribute;
 
 // The facts of the wrapped keys of one bag: how many there are; some key has a Key ID (`named`), has none (`unnamed`), has a KWK ID, where
 // an ID of 0 counts as none; the two IDs of some key are equal, be they 0 or not (`itself`).
-#[derive(Clone, Copy)]
+#[derive(Clone, Copy, Default)]
 pub struct KeyFacts {
     pub keys: usize,
     pub named: bool,
@@ -41,13 +41,7 @@ pub fn keys_of(m: Meaning, place: Place, a: &[u8]) -> KeyFacts
     requires { (carries_key m ≡ true) × (is_whole (attributes place 0 a.now) ≡ true) }
     ensures { (result ≡ key_facts_of (values_in m place a.now)) × (result.keys ≤ length a.now) }
 {
-    let mut f = KeyFacts {
-        keys: 0,
-        named: false,
-        unnamed: false,
-        with_kwk_id: false,
-        itself: false,
-    };
+    let mut f = KeyFacts::default();
     let mut at = 0;
     while let Some(x) = next_attribute(m, place, a, at) {
         f = with_key(f, attribute_value(a, x.start));

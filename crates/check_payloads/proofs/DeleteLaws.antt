@@ -1,12 +1,11 @@
 -- The body of a Delete payload: its fields, and each SPI by its place.
 use Prim.Native.Nat.{ℕ, zero, suc, ◌+◌, ◌-◌, ◌*◌, ◌<◌, ◌≤◌}
 use mathlib.Core.Path.{◌≡◌, ap, sym, ◌∙◌}
-use mathlib.Core.Logic.{◌⊎◌, inl, inr}
 use mathlib.Core.List.{List, []}
-use mathlib.Core.Bool.{Bool, true, not, ◌||◌, cond, ◌&&◌}
+use mathlib.Core.Bool.{true, cond, ◌&&◌}
 use native.Mathlib.Nat.{mul-suc, mul-zero, mul-le-mul_left}
 use native.Mathlib.Omega.{arith}
-use borrow.Author.Tests.{eqb-true, eq-eqb, ne_eqb}
+use borrow.Author.Tests.{eqb-true}
 use lib.Dec.{leb, eqb}
 use lib.ListN.{length, take, drop, get_or}
 use lib.Seq.{drop-drop}
@@ -15,9 +14,7 @@ use Rattle.octets.specs.Numbers.{oct}
 use Rattle.octets.specs.Walk.{be16, part}
 use Rattle.wire_frames.specs.Delete.{stretches, delete_of, delete_fits}
 use Rattle.wire_frames.proofs.DeleteGrammar.{delete-to}
-use Rattle.check_payloads.specs.inner.Deletion.{DeleteIs, with_one}
-use Rattle.check_payloads.specs.declared.deletion.DeleteParts.{DeleteParts}
-use Rattle.check_payloads.specs.declared.deletion.Deletes.{Deletes}
+use Rattle.check_payloads.specs.inner.Deletion.{DeleteIs}
 
 -- the stretch i of n stretches of k octets
 pub stretch-at : (n k : ℕ) (s : List ℕ) (i : ℕ) → i < n → get_or (stretches n k s) i [] ≡ take k (drop (k * i) s)
@@ -69,22 +66,3 @@ module _ (o : List ℕ) (e : delete_fits o ≡ true) where
         ∙ (λ j. take (zq j) (drop (4 + zq j * i) o))
         ∙ ap (take (oct o 1)) (sym (drop-drop (oct o 1 * i) 4 o))
         ∙ sym (stretch-at (be16 o 2) (oct o 1) (drop 4 o) i (omega arith))
-
--- one Delete payload more
-module _ (d : Deletes) (o : List ℕ) (x : DeleteParts) (i : DeleteIs o x) (other none : Bool) where
-  other-is : ((x.protocol ≡ 3) × (other ≡ d.other)) ⊎ ((x.protocol ≡ 3 → ⊥) × (other ≡ true))
-      → other ≡ (not (eqb (delete_of o).protocol 3) || d.other)
-  other-is (inl (e, f)) = f ∙ ap (λ (t : Bool). not t || d.other) (sym (eq-eqb (oct o 0) 3 (sym i.protocol ∙ e)))
-  other-is (inr (e, f)) = f ∙ ap (λ (t : Bool). not t || d.other) (sym (ne_eqb (oct o 0) 3 (λ u. e (i.protocol ∙ u))))
-
-  none_is : ((x.count ≡ 0) × (none ≡ true)) ⊎ ((x.count ≡ 0 → ⊥) × (none ≡ d.none))
-      → none ≡ (eqb (length (delete_of o).spis) 0 || d.none)
-  none_is (inl (e, f)) =
-      f ∙ ap (λ (t : Bool). t || d.none) (sym (eq-eqb (length (delete_of o).spis) 0 (sym i.count ∙ e)))
-  none_is (inr (e, f)) =
-      f ∙ ap (λ (t : Bool). t || d.none) (sym (ne_eqb (length (delete_of o).spis) 0 (λ u. e (i.count ∙ u))))
-
-  pub with-is : ((x.protocol ≡ 3) × (other ≡ d.other)) ⊎ ((x.protocol ≡ 3 → ⊥) × (other ≡ true))
-      → ((x.count ≡ 0) × (none ≡ true)) ⊎ ((x.count ≡ 0 → ⊥) × (none ≡ d.none))
-      → record { other = other; none = none; spis = d.spis + x.count } ≡ with_one d (delete_of o)
-  with-is e f = λ j. record { other = other-is e j; none = none_is f j; spis = d.spis + i.count j }

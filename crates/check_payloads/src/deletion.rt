@@ -51,17 +51,9 @@ fn with_one(d: Deletes, o: &[u8]) -> Deletes
     ensures { (result ≡ with_one d (delete_of o.now)) × (result.spis < d.spis + 65536) }
 {
     let x = delete_parts(o);
-    let mut other = true;
-    if x.protocol == ESP {
-        other = d.other;
-    }
-    let mut none = d.none;
-    if x.count == 0 {
-        none = true;
-    }
     Deletes {
-        other: other,
-        none: none,
+        other: d.other | (x.protocol != ESP),
+        none: d.none | (x.count == 0),
         spis: d.spis + x.count,
     }
 }

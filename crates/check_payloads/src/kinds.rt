@@ -10,16 +10,7 @@ use wire_readers::Stretch;
 pub fn is_known(kind: usize) -> bool
     ensures { result ≡ is_known kind }
 {
-    match kind {
-        IDR => true,
-        CERT => true,
-        AUTH => true,
-        NOTIFY => true,
-        DELETE => true,
-        GSA => true,
-        KD => true,
-        _ => false,
-    }
+    matches!(kind, IDR | CERT | AUTH | NOTIFY | DELETE | GSA | KD)
 }
 
 // Answers where the first payload of a type stands, once the payload at `this` is read: at `this` if it has the type (`hit`) and none
@@ -27,8 +18,5 @@ pub fn is_known(kind: usize) -> bool
 pub fn first(hit: bool, before: usize, this: Stretch, known: Stretch) -> Stretch
     ensures { result ≡ first_with hit before this known }
 {
-    if hit & (before == 0) {
-        return this;
-    }
-    known
+    if hit && before == 0 { this } else { known }
 }

@@ -44,13 +44,7 @@ pub struct EitherId {
 fn is_one_of(kind: usize, id: usize, w: EitherId) -> bool
     ensures { result ≡ (eqb kind w.kind && (eqb id w.one || eqb id w.other)) }
 {
-    if kind == w.kind {
-        if id == w.one {
-            return true;
-        }
-        return id == w.other;
-    }
-    false
+    kind == w.kind && (id == w.one || id == w.other)
 }
 
 // Counts one transform, of type `kind` with ID `id` and attributes `a`.

@@ -1,10 +1,14 @@
-use Rattle.std.proofs.Common.{ap, ◌∙◌}
+use Rattle.std.proofs.Common.{◌≡◌, rules, ap, sym, subst, ◌∙◌}
 use Rattle.check_bagkeys.specs.inner.Facts.{with_key}
-use Rattle.check_bagkeys.proofs.KeyLaws.{keys-start, keys-end, keys-next}
+use Rattle.check_bagkeys.specs.declared.wrapped.KeyFacts.{KeyFacts}
+use Rattle.check_bagkeys.proofs.KeyLaws.{no_keys, KeyWalk, keys-start, keys-end, keys-next}
 use Rattle.check_bagkeys.proofs.wrapped.keys_of.Goals as goal
 
 pub loop-x-init : goal.loop-x-init
-loop-x-init c = (c.requires.0, keys-start _ _ _ c.requires.1)
+loop-x-init c =
+    let a = c.args in
+    let none : c.default-f.result ≡ no_keys = search rules in
+    (c.requires.0, subst (λ (f : KeyFacts). KeyWalk a.m a.place a.a.now f 0) (sym none) (keys-start a.m a.place a.a.now c.requires.1))
 
 pub loop-x-preserved : goal.loop-x-preserved
 loop-x-preserved c =
