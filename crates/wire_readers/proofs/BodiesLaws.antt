@@ -2,7 +2,8 @@
 use Prim.Native.Nat.{ℕ, ◌+◌, ◌-◌, ◌<◌, ◌≤◌}
 use mathlib.Core.Path.{◌≡◌, refl, ap, sym, ◌∙◌, subst}
 use mathlib.Core.List.{List, [], ◌∷◌, ◌++◌}
-use mathlib.Core.Bool.{Bool, true, false}
+use mathlib.Core.Bool.{Bool, true, false, not}
+use Rattle.std.proofs.lemmas.Bool.{not-true}
 use native.Mathlib.Nat.{add-zero}
 use native.Mathlib.Omega.{arith}
 use lib.Dec.{eqb}
@@ -116,28 +117,21 @@ module _ (s : List ℕ) (l : List Transform) (tail : List ℕ) (x : Transforms s
             (subst (λ (y : List ℕ). Spans no_more IsTransform f.next y f.rest tail) left f.others);
       }
 
--- THE TRANSFORMS FROM A PLACE ON, where the one before it has said whether more follow
-abbrev pub AreLeft : List ℕ → ℕ → Bool → List Transform → List ℕ → Type 0
-AreLeft s at go l tail = Spans no_more IsTransform go (drop at s) l tail
-
-pub none_left : {s : List ℕ} {l : List Transform} {tail : List ℕ} {go : Bool} → Spans no_more IsTransform go s l tail → go ≡ false
-    → (l ≡ []) × (tail ≡ s)
-none_left (none e) h = (refl, refl)
+-- BEHIND THE LAST TRANSFORM, which is read at a place
+none_left : {s : List ℕ} {l : List Transform} {tail : List ℕ} {go : Bool} → Spans no_more IsTransform go s l tail → go ≡ false → tail ≡ s
+none_left (none e) h = refl
 none_left (more o s e i r) h = let z : ◌≡◌ {A = ℕ} 0 1 = cc in absurd (omega arith)
 
-module _ (s : List ℕ) (at : ℕ) (go : Bool) (l : List Transform) (tail : List ℕ) (x : AreLeft s at go l tail) (h : go ≡ true) where
-  pub next-are : Transforms (cut s at) l tail
-  next-are =
-      subst (λ (u : Bool). Spans no_more IsTransform u (cut s at) l tail) h
-      (subst (λ (y : List ℕ). Spans no_more IsTransform go y l tail) (sym (to_end s at)) x)
+module _ (s : List ℕ) (at : ℕ) (l : List Transform) (tail : List ℕ) (r : TransformParts)
+    (f : Transforms (cut s at) l tail → TransformIs (cut s at) l tail r) (x : Transforms (drop at s) l tail) where
+  found : TransformIs (cut s at) l tail r
+  found = f (subst (λ (y : List ℕ). Transforms y l tail) (sym (to_end s at)) x)
 
-  pub next-left : (r : TransformParts) (f : TransformIs (cut s at) l tail r) → AreLeft s (at + r.end) r.more f.rest tail
-  next-left r f =
-      subst (λ (y : List ℕ). Spans no_more IsTransform r.more y f.rest tail)
-      (ap (drop r.end) (to_end s at) ∙ drop-drop r.end at s) f.others
+  pub next-inside : at + r.end ≤ length s
+  next-inside = omega (arith, found.least, found.inside, ap length (to_end s at), length-drop at s)
 
-  pub next-inside : (r : TransformParts) → TransformIs (cut s at) l tail r → (8 ≤ r.end) × (at + r.end ≤ length s)
-  next-inside r f = (f.least, omega (arith, f.least, f.inside, ap length (to_end s at), length-drop at s))
+  pub behind-last : not r.more ≡ true → tail ≡ drop (at + r.end) s
+  behind-last h = none_left found.others (not-true r.more h) ∙ ap (drop r.end) (to_end s at) ∙ drop-drop r.end at s
 
 -- SELECTORS IN FRONT OF THE TRANSFORMS
 selector-size-is : (o r : List ℕ) (x : Selector) → IsSelector o x → (0 < length o) × (length o ≡ selector_size (oct (o ++ r) 0))

@@ -45,13 +45,13 @@ fn transforms_end(s: &[u8]) -> usize
         × ((l : List Transform) (tail : List ℕ) → Transforms s.now l tail → tail ≡ drop result s.now) }
 {
     let mut at = 0;
-    let mut more = true;
-    while more {
+    loop {
         let t = transform_parts(&s[at..]);
-        at = at + t.end;
-        more = t.more;
+        at += t.end;
+        if !t.more {
+            return at;
+        }
     }
-    at
 }
 
 // Finds the parts of `s`, all that a Group SA policy holds after its SPI. The source selector comes first.
