@@ -1,52 +1,18 @@
 -- The loops over the cells.
 use native.Mathlib.Omega.{arith}
 use Prim.Native.Nat.{ℕ, ◌+◌, ◌≤◌, ◌<◌}
-use mathlib.Core.Path.{◌≡◌, refl, ap, sym, ◌∙◌, subst}
-use mathlib.Core.Bool.{true, false}
+use mathlib.Core.Path.{◌≡◌, refl, sym, ◌∙◌, subst}
 use mathlib.Core.List.{List}
 use borrow.Author.Count.{below_more}
 use lib.ListN.{length, get_or, set}
 use lib.Seq.{get_or-set_same, get_or-set_other}
 use Rattle.wire_attributes.specs.Tree.{WrapKey}
-use Rattle.unwrap_search.specs.declared.open.Status.{Status}
-use Rattle.unwrap_search.specs.declared.open.Status.TheVariants.{Waiting, Failed, Wrong, Pending, Done}
 use Rattle.unwrap_search.specs.declared.open.Entry.{Entry}
 use Rattle.unwrap_search.specs.declared.open.Cell.{Cell}
 use Rattle.unwrap_search.specs.inner.Entries.{no_entry, IsEntry, Lists}
-use Rattle.unwrap_search.specs.inner.Opened.{no_cell, pending, naming, Tried, stays}
-use Rattle.unwrap_search.specs.inner.Search.{key_at, cell_at, AllTried, Unnamed, PendingAt, NonePending}
+use Rattle.unwrap_search.specs.inner.Opened.{no_cell, Tried, stays}
+use Rattle.unwrap_search.specs.inner.Search.{key_at, cell_at, AllTried, Unnamed}
 use Rattle.unwrap_search.proofs.Statuses.{get_d_any}
-use Rattle.unwrap_search.proofs.Opening.{named-not}
-
-pends-is : (s : Status) → true ≡ pending s → s ≡ Pending
-pends-is Waiting e = let z : ◌≡◌ {A = ℕ} 0 1 = cc in absurd (omega arith)
-pends-is Failed e = let z : ◌≡◌ {A = ℕ} 0 1 = cc in absurd (omega arith)
-pends-is Wrong e = let z : ◌≡◌ {A = ℕ} 0 1 = cc in absurd (omega arith)
-pends-is Pending e = refl
-pends-is Done e = let z : ◌≡◌ {A = ℕ} 0 1 = cc in absurd (omega arith)
-
-pends-not : (s : Status) → false ≡ pending s → s ≡ Pending → ⊥
-pends-not s e q = let f : pending s ≡ true = ap pending q in let z : ◌≡◌ {A = ℕ} 0 1 = cc in omega arith
-
-module _ (cells : List Cell) (i : ℕ) (d : Cell) (h : i < length cells) where
-  at : get_or cells i d ≡ cell_at cells i
-  at = get_d_any cells i d no_cell h
-
-  pub pend-here : (n : ℕ) → i < n → true ≡ pending (get_or cells i d).status → PendingAt cells n i
-  pend-here n g e = record { inside = g; pends = ap (λ (c : Cell). c.status) (sym at) ∙ pends-is (get_or cells i d).status e }
-
-  pub pend-next : NonePending cells i → false ≡ pending (get_or cells i d).status → NonePending cells (i + 1)
-  pend-next f e =
-      below_more (λ j. (cell_at cells j).status ≡ Pending → ⊥) i f
-      (λ q. pends-not (get_or cells i d).status e (ap (λ (c : Cell). c.status) at ∙ q))
-
-  module _ (places : List Entry) (dE : Entry) (g : i < length places) (k : ℕ) where
-    pub named-next : Unnamed k places cells i → false ≡ naming k (get_or places i dE) (get_or cells i d) → Unnamed k places cells (i + 1)
-    named-next f e =
-        below_more (λ j. (get_or places j no_entry).kwk ≡ k → (cell_at cells j).status ≡ Waiting → ⊥) i f
-        (λ q w.
-        named-not k (get_or places i dE) (get_or cells i d) e (ap (λ (a : Entry). a.kwk) (get_d_any places i dE no_entry g) ∙ q)
-        (ap (λ (c : Cell). c.status) at ∙ w))
 
 -- the cells below i tried, those from i on as they were
 pub record Partly (k : ℕ) (v : List ℕ) (size : ℕ) (entries : List WrapKey) (cells out : List Cell) (i : ℕ) : Type 0 where

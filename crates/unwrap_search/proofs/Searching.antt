@@ -1,13 +1,13 @@
 -- The search from key 0 and held keys: its start, a turn, its end, and that it ends.
 use native.Mathlib.Omega.{arith}
-use Prim.Native.Nat.{ℕ, zero, suc, ◌+◌, ◌-◌, ◌≤◌, ◌<◌}
+use Prim.Native.Nat.{ℕ, zero, suc, ◌+◌, ◌≤◌, ◌<◌}
 use mathlib.Core.Path.{◌≡◌, refl, ap, sym, ◌∙◌, subst}
 use mathlib.Core.Bool.{true}
 use mathlib.Core.Logic.{inl, inr, ⊎_elim}
 use mathlib.Core.List.{List, [], ◌∷◌}
 use lib.Dec.{T}
-use lib.ListN.{length, get_or, set, replicate, get_or-replicate}
-use lib.Seq.{get_or-set_same, get_or-set_other}
+use lib.ListN.{length, take, get_or, set, replicate, get_or-replicate}
+use lib.Seq.{get_or-set_same, get_or-set_other, get_or-take, length-take-le}
 use Rattle.fips197.specs.Key.{Key, is_key}
 use Rattle.wire_attributes.specs.Tree.{WrapKey}
 use Rattle.state_keys.specs.Limits.{limits}
@@ -91,7 +91,7 @@ abbrev pub marked : List Cell → ℕ → WrappingKey → List Cell
 marked cells j key = set cells j (record { status = Done; key = key })
 
 -- a key that is tried leaves no more cells undone
-pub fell-tried : (l : List WrapKey) (k : ℕ) (v : List ℕ) (size : ℕ) (cells after : List Cell) → AllTried k v size l cells after →
+fell-tried : (l : List WrapKey) (k : ℕ) (v : List ℕ) (size : ℕ) (cells after : List Cell) → AllTried k v size l cells after →
     undone (length l) (cell_at after) ≤ undone (length l) (cell_at cells)
 fell-tried l k v size cells after t =
     undone-le (length l) (cell_at cells) (cell_at after)
@@ -108,11 +108,31 @@ fell-marked n cells j key at h =
     undone-mark n (cell_at cells) (cell_at (marked cells j key)) j at.inside at.pends (ap (λ (c : Cell). c.status) here)
     (λ i ne. get_or-set_other cells j i d no_cell ne)
 
-pub fewer-left : (n : ℕ) (before cells : List Cell) (j : ℕ) (key : WrappingKey) (m from r : ℕ)
-    → undone n (cell_at cells) ≤ undone n (cell_at before) →
-    PendingAt cells n j → n ≤ length cells → from ≤ r →
-    (m - r) + undone n (cell_at (marked cells j key)) < (m - from) + undone n (cell_at before)
-fewer-left n before cells j key m from r d at h f = let e = fell-marked n cells j key at h in omega arith
+-- a cell that is marked, and its key then tried, leave one less
+pub fell-next : (l : List WrapKey) (n k : ℕ) (v : List ℕ) (size : ℕ) (cells after : List Cell) (j : ℕ) (key : WrappingKey) →
+    length l ≡ n → PendingAt cells n j → n ≤ length cells → AllTried k v size l (marked cells j key) after →
+    undone n (cell_at after) < undone n (cell_at cells)
+fell-next l n k v size cells after j key e at h t =
+    let a = fell-marked n cells j key at h in
+    let b = subst (λ (m : ℕ). undone m (cell_at after) ≤ undone m (cell_at (marked cells j key))) e
+    (fell-tried l k v size (marked cells j key) after t) in
+    omega arith
+
+pub places-most : (frame : List ℕ) (places : List Entry) (l : List WrapKey) → Lists frame places (length places) l →
+    length places ≤ limits.wrap_keys
+places-most frame places l x = x.within
+
+-- ---- the first cells of some
+pub pending-first : (cells : List Cell) (n j : ℕ) → n ≤ length cells → PendingAt (take n cells) (length (take n cells)) j → PendingAt cells n j
+pending-first cells n j h at =
+    let m = length-take-le n cells h in
+    let g : j < n = let z = at.inside in omega arith in
+    record { inside = g; pends = ap (λ (c : Cell). c.status) (sym (get_or-take n cells j no_cell g)) ∙ at.pends }
+
+pub none-first : (cells : List Cell) (n : ℕ) → n ≤ length cells → NonePending (take n cells) (length (take n cells)) → NonePending cells n
+none-first cells n h f j g e =
+    let m = length-take-le n cells h in
+    f j (omega arith) (ap (λ (c : Cell). c.status) (get_or-take n cells j no_cell g) ∙ e)
 
 module _ (roots : List Root) (root-keys : (r : Root) → In r roots → Key r.value) (l : List WrapKey) (size : ℕ)
     (fit : T (is_key size)) where
@@ -148,8 +168,9 @@ module _ (roots : List Root) (root-keys : (r : Root) → In r roots → Key r.va
       ap (λ (k : WrappingKey). k.count) g.2.is ∙ g.2.fits
 
   -- the pending cell that the code reads at j is the next
-  module _ (rest : List Root) (frame : List ℕ) (places : List Entry) (n : ℕ) (cells : List Cell) (j : ℕ) (lists : Lists frame places n l)
-      (inv : Kept rest cells) (at : PendingAt cells n j) (full : length cells ≡ limits.wrap_keys) where
+  module _ (rest : List Root) (frame : List ℕ) (places : List Entry) (cells : List Cell) (j : ℕ)
+      (lists : Lists frame places (length places) l) (inv : Kept rest cells) (at : PendingAt cells (length places) j)
+      (full : length cells ≡ limits.wrap_keys) where
     at_j : PendingAt cells (length l) j
     at_j = subst (λ (m : ℕ). PendingAt cells m j) (sym lists.count) at
 
@@ -160,10 +181,10 @@ module _ (roots : List Root) (root-keys : (r : Root) → In r roots → Key r.va
     count_at d e =
         ap is_wrapping_size (ap (λ (c : Cell). c.key.count) (get_d_any cells j d no_cell in_cells) ∙ pending-count rest cells j inv at_j) ∙ e
 
-    pub at-cell : (dE : Entry) (dC : Cell) → length places ≡ limits.wrap_keys →
+    pub at-cell : (dE : Entry) (dC : Cell) →
         KeptAhead rest (marked cells j (get_or cells j dC).key) (get_or places j dE).id (value_of (get_or cells j dC).key)
-    at-cell dE dC h =
-        let g : j < length places = let z = at.inside in let y = lists.within in omega arith in
+    at-cell dE dC =
+        let g : j < length places = at.inside in
         let id : (key_at l j).key_id ≡ (get_or places j dE).id =
         sym (ap (λ (e : Entry). e.id) (get_d_any places j dE no_entry g) ∙ (lists.at j at.inside).id) in
         let c : cell_at cells j ≡ get_or cells j dC = sym (get_d_any cells j dC no_cell in_cells) in

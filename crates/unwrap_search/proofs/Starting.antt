@@ -1,15 +1,15 @@
 -- The roots of a search: key 0, and the lent keys that no entry carries anew.
 use native.Mathlib.Omega.{arith}
-use native.Mathlib.Numerals.{add-one}
-use Prim.Native.Nat.{ℕ, zero, suc, ◌+◌, ◌-◌, ◌≤◌, ◌<◌}
+use Prim.Native.Nat.{ℕ, zero, suc, ◌-◌, ◌≤◌, ◌<◌}
 use mathlib.Core.Path.{◌≡◌, refl, ap, sym, ◌∙◌}
 use mathlib.Core.Bool.{Bool, true, false, not, false≢true}
 use mathlib.Core.Logic.{⊎_elim}
 use mathlib.Core.List.Memᴰ
 use mathlib.Core.List.{List, [], ◌∷◌, map, Memᴰ}
+use Rattle.std.specs.Bool.{MatchBool}
+use Rattle.std.specs.List.{HoldsAt, AllWithin}
 use borrow.Author.Tests.{eq-eqb, ne_eqb, eqb-true}
 use lib.Dec.{eqb}
-use borrow.Author.Count.{below_more}
 use lib.ListN.{length, drop, get_or, replicate, drop_of_length-le}
 use lib.Seq.{drop-cons, length-take-le, take-append_seam}
 use Rattle.wire_attributes.specs.Tree.{WrapKey}
@@ -20,15 +20,14 @@ use Rattle.state_keys.specs.Kinds.{wrapping_of, wrapping_key, value_of}
 use Rattle.state_keys.specs.declared.kinds.WrappingKey.{WrappingKey}
 use Rattle.state_keys.specs.declared.kinds.MadeWrapping.{MadeWrapping}
 use Rattle.state_keys.proofs.Sizes.{wrapping-le}
-use Rattle.lists.proofs.Cases.{bool_cases, lt-cases}
+use Rattle.lists.proofs.Cases.{bool_cases}
 use Rattle.lists.proofs.Members.{kept-member}
 use Rattle.state.specs.Held.{blank_key}
 use Rattle.state.specs.declared.held.HeldKey.{HeldKey}
 use Rattle.unwrap_search.specs.declared.open.Entry.{Entry}
 use Rattle.unwrap_search.specs.inner.Entries.{no_entry, Lists}
 use Rattle.unwrap_lending.specs.inner.Lending.{Lends}
-use Rattle.unwrap_search.specs.inner.Search.{key_at, carried_by, root_of, held_roots, NextRoot, KeyFrom}
-use Rattle.unwrap_search.proofs.Statuses.{get_d_any}
+use Rattle.unwrap_search.specs.inner.Search.{key_at, carried_by, root_of, held_roots, KeyFrom}
 
 -- ---- a Key ID that one of the entries has
 pub carried-at : (l : List WrapKey) (id i : ℕ) → i < length l → (key_at l i).key_id ≡ id → carried_by l id ≡ true
@@ -59,34 +58,14 @@ module _ (frame : List ℕ) (places : List Entry) (n : ℕ) (l : List WrapKey) (
   none-carries f =
       sym (carried_none l id (λ i h e. let z : i < n = let y = lists.count in omega arith in f i z ((lists.at i z).id ∙ e)))
 
--- none of the entries before place i has this Key ID
-abbrev pub Uncarried : ℕ → List Entry → ℕ → Type 0
-Uncarried id places i = (j : ℕ) → j < i → (get_or places j no_entry).id ≡ id → ⊥
-
-pub uncarried-none : (id : ℕ) (places : List Entry) → Uncarried id places 0
-uncarried-none id places j h e = absurd (omega arith)
-
-pub uncarried_more : (id : ℕ) (places : List Entry) (i : ℕ) (d : Entry) → i < length places → Uncarried id places i →
-    ((get_or places i d).id ≡ id → ⊥) → Uncarried id places (i + 1)
-uncarried_more id places i d h p f =
-    below_more (λ j. (get_or places j no_entry).id ≡ id → ⊥) i p (λ e. f (ap (λ (a : Entry). a.id) (get_d_any places i d no_entry h) ∙ e))
-
-pub carried_here : (frame : List ℕ) (places : List Entry) (n : ℕ) (l : List WrapKey) → Lists frame places n l → (id i : ℕ) (d : Entry) →
-    i < n → i < length places → (get_or places i d).id ≡ id → true ≡ carried_by l id
-carried_here frame places n l lists id i d h g e =
-    some-carries frame places n l lists id i h (ap (λ (a : Entry). a.id) (get_d_any places i no_entry d g) ∙ e)
-
--- the Key IDs from `from` up to place i are carried
-abbrev pub PassedFrom : List WrapKey → List ℕ → ℕ → ℕ → Type 0
-PassedFrom l ids from i = (j : ℕ) → from ≤ j → j < i → carried_by l (get_or ids j 0) ≡ true
-
-pub passed_none : (l : List WrapKey) (ids : List ℕ) (from : ℕ) → PassedFrom l ids from from
-passed_none l ids from j g h = absurd (omega arith)
-
-pub passed-more : (l : List WrapKey) (ids : List ℕ) (from i : ℕ) → PassedFrom l ids from i → carried_by l (get_or ids i 0) ≡ true →
-    PassedFrom l ids from (i + 1)
-passed-more l ids from i p e j g h =
-    lt-cases j i (λ k. p j g k) (λ k. ap (λ (n : ℕ). carried_by l (get_or ids n 0)) (let z : j ≡ i = omega arith in z) ∙ e)
+-- the answer of a search over the entries for this Key ID
+pub carried-told : (frame : List ℕ) (places : List Entry) (id : ℕ) (r : Bool) →
+    MatchBool r ((k : ℕ) × (k < length places) × HoldsAt (λ (e : Entry). e.id ≡ id) places k)
+    (AllWithin (λ (e : Entry). e.id ≡ id → ⊥) places 0 (length places)) →
+    (l : List WrapKey) → Lists frame places (length places) l → r ≡ carried_by l id
+carried-told frame places id true h l lists = some-carries frame places (length places) l lists id h.0 h.1 (h.2 no_entry)
+carried-told frame places id false f l lists =
+    none-carries frame places (length places) l lists id (λ i h e. f i no_entry (omega arith) h e)
 
 -- ---- a key made of a lent one
 pub key-from : (keys : List HeldKey) (ids block : List ℕ) → Lends keys ids block → (i : ℕ) → i < length keys →
@@ -116,53 +95,19 @@ root-member l (k ∷ keys) (suc j) h e =
     bool_cases (carried_by l k.id) (λ g. rw g d) (λ g. rw g (Memᴰ.tail d))
 
 module _ (l : List WrapKey) (keys : List HeldKey) where
-  root-passed : (j : ℕ) → j < length keys → carried_by l (get_or keys j blank_key).id ≡ true →
+  pub root-passed : (j : ℕ) → j < length keys → carried_by l (get_or keys j blank_key).id ≡ true →
       held_roots l (drop j keys) ≡ held_roots l (drop (suc j) keys)
   unfolding held_roots keep
   root-passed j h e = rw (drop-cons keys j blank_key h, e) refl
 
-  root-first : (j : ℕ) → j < length keys → carried_by l (get_or keys j blank_key).id ≡ false →
+  pub root-first : (j : ℕ) → j < length keys → carried_by l (get_or keys j blank_key).id ≡ false →
       held_roots l (drop j keys) ≡ root_of (get_or keys j blank_key) ∷ held_roots l (drop (suc j) keys)
   unfolding held_roots keep
   root-first j h e = rw (drop-cons keys j blank_key h, e) refl
 
-  root_none : (j : ℕ) → length keys ≤ j → held_roots l (drop j keys) ≡ []
+  pub root_none : (j : ℕ) → length keys ≤ j → held_roots l (drop j keys) ≡ []
   unfolding held_roots keep
   root_none j h = rw (drop_of_length-le keys h) refl
-
-  module _ (ids : List ℕ) (count : length ids ≡ length keys) (same : (j : ℕ) → j < length keys → get_or ids j 0 ≡ (get_or keys j blank_key).id)
-      (from r : ℕ) (f : NextRoot l ids from r) where
-    passed-roots : (k : ℕ) → from + k ≤ r → held_roots l (drop from keys) ≡ held_roots l (drop (from + k) keys)
-    passed-roots zero g = ap (λ (n : ℕ). held_roots l (drop n keys)) (let z : from ≡ from + 0 = omega arith in z)
-    passed-roots (suc k) g =
-        let m = f.most in
-        let h : from + k < length keys = omega arith in
-        passed-roots k (omega arith)
-        ∙ root-passed (from + k) h (ap (carried_by l) (sym (same (from + k) h)) ∙ f.passed (from + k) (omega arith) (omega arith))
-        ∙ ap (λ (n : ℕ). held_roots l (drop n keys)) (let z : suc (from + k) ≡ from + suc k = omega arith in z)
-
-    pub all-passed : held_roots l (drop from keys) ≡ held_roots l (drop r keys)
-    all-passed =
-        let b = f.behind in
-        let e : from + (r - from) ≡ r = omega arith in
-        passed-roots (r - from) (omega arith) ∙ ap (λ (n : ℕ). held_roots l (drop n keys)) e
-
-    -- the next root stands first
-    pub next-first : r < length ids → held_roots l (drop from keys) ≡ root_of (get_or keys r blank_key) ∷ held_roots l (drop (r + 1) keys)
-    next-first h =
-        let g : r < length keys = omega arith in
-        all-passed ∙ root-first r g (ap (carried_by l) (sym (same r g)) ∙ f.here h)
-        ∙ ap (λ (n : ℕ). root_of (get_or keys r blank_key) ∷ held_roots l (drop n keys)) (sym (add-one r))
-
-    -- it is one of them all
-    pub root-among : r < length ids → Memᴰ (root_of (get_or keys r blank_key)) (held_roots l keys)
-    root-among h =
-        let g : r < length keys = omega arith in
-        root-member l keys r g (ap (carried_by l) (sym (same r g)) ∙ f.here h)
-
-    -- or no root is left
-    pub next-none : length ids ≤ r → held_roots l (drop from keys) ≡ []
-    next-none h = all-passed ∙ root_none r (omega arith)
 
 -- ---- each root is key 0 or one of the held keys, which no entry carries
 member-of-map : (r : Root) (keys : List HeldKey) → Memᴰ r (map root_of keys) → (k : HeldKey) × Memᴰ k keys × (root_of k ≡ r)

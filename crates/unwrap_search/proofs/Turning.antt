@@ -2,9 +2,10 @@
 use native.Mathlib.Omega.{arith}
 use Prim.Native.Nat.{ℕ, ◌+◌, ◌-◌, ◌*◌, ◌≤◌, ◌<◌}
 use mathlib.Core.Path.{◌≡◌, refl, ap, sym, ◌∙◌, subst}
-use mathlib.Core.Bool.{true}
+use native.Mathlib.Numerals.{add-one}
+use mathlib.Core.Bool.{true, false}
 use mathlib.Core.Logic.{⊎_elim}
-use mathlib.Core.List.{List, [], Memᴰ}
+use mathlib.Core.List.{List, [], ◌∷◌, Memᴰ}
 use lib.Dec.{T}
 use lib.ListN.{length, drop, get_or, replicate, get_or-map}
 use lib.Seq.{length-take-le}
@@ -24,16 +25,18 @@ use Rattle.state_keys.proofs.Sizes.{wrapping-le}
 use Rattle.state.specs.Held.{blank_key, keys_of, held_formed}
 use Rattle.state.specs.declared.held.HeldKey.{HeldKey}
 use Rattle.state.specs.declared.held.Held.{Held}
-use Rattle.unwrap_lending.specs.inner.Lending.{place_octets, LendsHeld}
+use Rattle.unwrap_lending.specs.inner.Lending.{place_octets, Lends, LendsHeld}
 use Rattle.unwrap_lending.proofs.HeldLaws.{held-formed, all-member, key-size}
 use Rattle.unwrap_lending.proofs.Blocks.{ids-length, value-here}
+use Rattle.unwrap_search.specs.declared.open.Entry.{Entry}
 use Rattle.unwrap_search.specs.declared.open.Cell.{Cell}
+use Rattle.unwrap_search.specs.inner.Entries.{Lists}
 use Rattle.unwrap_search.specs.inner.Opened.{no_cell}
-use Rattle.unwrap_search.specs.inner.Search.{NonePending, Searched, KeyFrom, NextRoot}
+use Rattle.unwrap_search.specs.inner.Search.{AllTried, PendingAt, NonePending, Searched, KeyFrom, carried_by}
 use Rattle.unwrap_search.specs.inner.Search.{root_of, held_roots, roots_with}
 use Rattle.unwrap_search.proofs.Statuses.{get_d_any}
-use Rattle.unwrap_search.proofs.Searching.{Kept, KeptAhead, is-key-size, started, at-root, ended}
-use Rattle.unwrap_search.proofs.Starting.{held-root, root-among, next-first, next-none, all-passed}
+use Rattle.unwrap_search.proofs.Searching.{Kept, KeptAhead, is-key-size, started, tried, at-root, marked, at-cell, count_at, ended}
+use Rattle.unwrap_search.proofs.Starting.{held-root, root-member, root-passed, root-first, root_none}
 use Rattle.unwrap_search.proofs.RootsFitting.{root-cases, alike, apart}
 
 part-octets : (s : List ℕ) (a e : ℕ) → Octets s → Octets (part s a e)
@@ -92,39 +95,45 @@ module _ (v : List ℕ) (is : Key v) (l : List WrapKey) (held : Held) (ids block
         started roots root-keys l size fit zero_root (record { place = 0; inside = omega arith; is = refl }) (left 0)
         (λ s m f. ⊎_elim (λ e. ap (λ (x : Root). x.id) e) (λ d. absurd (f (member-in s (left 0) d))) (root-cases v l keys s m)) h
 
-    module _ (from r : ℕ) (f : NextRoot l ids from r) (cells : List Cell) (kept : Turned from cells) where
-      count : length ids ≡ length keys
-      count = ids-length keys ids block lends.lends
+    count : length ids ≡ length keys
+    count = ids-length keys ids block lends.lends
 
-      same : (j : ℕ) → j < length keys → get_or ids j 0 ≡ (get_or keys j blank_key).id
-      same j h =
-          ap (λ (x : List ℕ). get_or x j 0) lends.lends.ids-are ∙ get_or-map (λ (a : HeldKey). a.id) keys j blank_key
+    same : (j : ℕ) → get_or ids j 0 ≡ (get_or keys j blank_key).id
+    same j = ap (λ (x : List ℕ). get_or x j 0) lends.lends.ids-are ∙ get_or-map (λ (a : HeldKey). a.id) keys j blank_key
 
-      -- the next key is a root
-      pub root-turn : r < length ids → (made : WrappingKey) → KeyFrom (get_or keys r blank_key).key made →
-          Turn (r + 1) cells (get_or ids r 0) (value_of made)
-      root-turn h made k =
-          let g : r < length keys = let n = count in omega arith in
-          let o = root_of (get_or keys r blank_key) in
-          let e = next-first l keys ids count same from r f h in
-          let m = root-among l keys ids count same from r f h in
-          let a = at-root roots root-keys l size fit o (left (r + 1)) cells
+    module _ (i : ℕ) (h : i < length ids) (cells : List Cell) (kept : Turned i cells) where
+      inside : i < length keys
+      inside = let n = count in omega arith
+
+      -- the key at place i, which an entry carries, is no root
+      pub passed-turn : carried_by l (get_or ids i 0) ≡ true → Turned (i + 1) cells
+      passed-turn e =
+          subst (λ (x : List Root). Kept roots root-keys l size fit x cells)
+          (root-passed l keys i inside (ap (carried_by l) (sym (same i)) ∙ e) ∙ ap left (sym (add-one i))) kept
+
+      -- the key at place i, which no entry carries, is the next
+      pub root-turn : carried_by l (get_or ids i 0) ≡ false → (made : WrappingKey) → KeyFrom (get_or keys i blank_key).key made →
+          Turn (i + 1) cells (get_or ids i 0) (value_of made)
+      root-turn e made k =
+          let o = root_of (get_or keys i blank_key) in
+          let d = ap (carried_by l) (sym (same i)) ∙ e in
+          let m = root-member l keys i inside d in
+          let a = at-root roots root-keys l size fit o (left (i + 1)) cells
           (member-in o roots (Memᴰ.tail m))
-          (subst (λ (x : List Root). Kept roots root-keys l size fit x cells) e kept) in
-          subst (λ (x : List ℕ). Turn (r + 1) cells (get_or ids r 0) x) (sym k.value)
-          (subst (λ (i : ℕ). Turn (r + 1) cells i (value_of (get_or keys r blank_key).key)) (sym (same r g)) a)
+          (subst (λ (x : List Root). Kept roots root-keys l size fit x cells)
+          (root-first l keys i inside d ∙ ap (λ (n : ℕ). o ∷ left n) (sym (add-one i))) kept) in
+          subst (λ (x : List ℕ). Turn (i + 1) cells (get_or ids i 0) x) (sym k.value)
+          (subst (λ (n : ℕ). Turn (i + 1) cells n (value_of (get_or keys i blank_key).key)) (sym (same i)) a)
 
-      -- no root is left
-      pub none_left : length ids ≤ r → Kept roots root-keys l size fit [] cells
-      none_left h = subst (λ (x : List Root). Kept roots root-keys l size fit x cells) (next-none l keys ids count same from r f h) kept
+    -- behind the last no root is left
+    none_left : (cells : List Cell) → Turned (length ids) cells → Kept roots root-keys l size fit [] cells
+    none_left cells kept =
+        subst (λ (x : List Root). Kept roots root-keys l size fit x cells)
+        (root_none l keys (length ids) (let n = count in omega arith)) kept
 
-      pub still : Turned r cells
-      still = subst (λ (x : List Root). Kept roots root-keys l size fit x cells) (all-passed l keys ids count same from r f) kept
-
-    pub all_found : (cells : List Cell) → Kept roots root-keys l size fit [] cells → NonePending cells (length l)
-        → Searched roots l size cells
+    pub all_found : (cells : List Cell) → Turned (length ids) cells → NonePending cells (length l) → Searched roots l size cells
     all_found cells kept last =
-        ended roots root-keys l size fit cells kept last (alike v l held lends.formed) (apart v l held lends.formed)
+        ended roots root-keys l size fit cells (none_left cells kept) last (alike v l held lends.formed) (apart v l held lends.formed)
 
 -- a lent key has the size of a wrapping key
 pub held-sized : (held : Held) → held_formed limits held ≡ true → (i : ℕ) → i < length (keys_of held) →
@@ -134,3 +143,64 @@ held-sized held e i h =
     key-size k
     (all-member k (keys_of held) (held-formed held e)
     (in-member k (keys_of held) (record { place = i; inside = h; is = get_d_any (keys_of held) i k blank_key h })))
+
+-- ---- the cells of a search, whatever entries and held list its arguments stand for
+module _ (frame ids block : List ℕ) (places : List Entry) (lent : WrappingKey) where
+  abbrev pub Listed : List WrapKey → Type 0
+  Listed l = Lists frame places (length places) l
+
+  -- the roots from place `from` on are left
+  abbrev pub Keeps : ℕ → List Cell → Type 0
+  Keeps from cells = (is : Key (value_of lent)) (l : List WrapKey) (held : Held) (lends : LendsHeld held ids block) (small : Octets block)
+      (fit : T (is_key lent.count)) → Listed l → Turned (value_of lent) is l held ids block lends small lent.count fit from cells
+
+  pub keeps-zero : (b : Cell) → b ≡ no_cell → (after : List Cell) →
+      ((l : List WrapKey) → Listed l → AllTried 0 (value_of lent) lent.count l (replicate limits.wrap_keys b) after) → Keeps 0 after
+  keeps-zero b e after t is l held lends small fit x =
+      let f = first-turn (value_of lent) is l held ids block lends small lent.count fit
+      (let z = x.count in let y = x.within in omega arith) in
+      tried (roots (value_of lent) is l held ids block lends small) (root-keys (value_of lent) is l held ids block lends small) l
+      lent.count fit (left (value_of lent) is l held ids block lends small 0) (replicate limits.wrap_keys no_cell) after 0
+      (value_of lent) f
+      (subst (λ (c : Cell). AllTried 0 (value_of lent) lent.count l (replicate limits.wrap_keys c) after) e (t l x))
+
+  module _ (i : ℕ) (h : i < length ids) (cells : List Cell) (kept : Keeps i cells) where
+    pub keeps-passed : ((l : List WrapKey) → Listed l → carried_by l (get_or ids i 0) ≡ true) → Keeps (i + 1) cells
+    keeps-passed e is l held lends small fit x =
+        passed-turn (value_of lent) is l held ids block lends small lent.count fit i h cells (kept is l held lends small fit x) (e l x)
+
+    pub keeps-root : ((l : List WrapKey) → Listed l → carried_by l (get_or ids i 0) ≡ false) → (made : WrappingKey) →
+        ((keys : List HeldKey) → Lends keys ids block → i < length keys →
+        is_wrapping_size (get_or keys i blank_key).key.count ≡ true → KeyFrom (get_or keys i blank_key).key made) →
+        (after : List Cell) →
+        ((l : List WrapKey) → Listed l → AllTried (get_or ids i 0) (value_of made) lent.count l cells after) → Keeps (i + 1) after
+    keeps-root e made from after t is l held lends small fit x =
+        let n = ids-length (keys_of held) ids block lends.lends in
+        let g : i < length (keys_of held) = omega arith in
+        let k = from (keys_of held) lends.lends g (held-sized held lends.formed i g) in
+        let a = root-turn (value_of lent) is l held ids block lends small lent.count fit i h cells (kept is l held lends small fit x)
+        (e l x) made k in
+        tried (roots (value_of lent) is l held ids block lends small) (root-keys (value_of lent) is l held ids block lends small) l
+        lent.count fit (left (value_of lent) is l held ids block lends small (i + 1)) cells after (get_or ids i 0) (value_of made) a (t l x)
+
+  module _ (from : ℕ) (cells : List Cell) (kept : Keeps from cells) (full : length cells ≡ limits.wrap_keys) (j : ℕ)
+      (at : PendingAt cells (length places) j) where
+    pub keeps-cell : (dE : Entry) (dC : Cell) (after : List Cell) →
+        ((l : List WrapKey) → Listed l → AllTried (get_or places j dE).id (value_of (get_or cells j dC).key) lent.count l
+        (marked cells j (get_or cells j dC).key) after) → Keeps from after
+    keeps-cell dE dC after t is l held lends small fit x =
+        let o = roots (value_of lent) is l held ids block lends small in
+        let k = root-keys (value_of lent) is l held ids block lends small in
+        let r = left (value_of lent) is l held ids block lends small from in
+        tried o k l lent.count fit r (marked cells j (get_or cells j dC).key) after (get_or places j dE).id
+        (value_of (get_or cells j dC).key)
+        (at-cell o k l lent.count fit r frame places cells j x (kept is l held lends small fit x) at full dE dC)
+        (t l x)
+
+    pub keeps-count : (d : Cell) → Key (value_of lent) → (l : List WrapKey) (held : Held) → LendsHeld held ids block → Octets block →
+        is_wrapping_size lent.count ≡ true → Listed l → is_wrapping_size (get_or cells j d).key.count ≡ true
+    keeps-count d is l held lends small size x =
+        let fit = is-key-size lent.count size in
+        count_at (roots (value_of lent) is l held ids block lends small) (root-keys (value_of lent) is l held ids block lends small) l
+        lent.count fit (left (value_of lent) is l held ids block lends small from) frame places cells j x
+        (kept is l held lends small fit x) at full d size

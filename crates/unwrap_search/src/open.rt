@@ -23,7 +23,7 @@ pub struct Entry {
 
 // What became of an entry. `Waiting`: its wrapping key is not known. `Failed`: it did not open. `Wrong`: it opened to a wrong size.
 // `Pending`: it opened, and its own key is yet to be tried on the other entries. `Done`: it opened, and its own key was tried.
-#[derive(Clone, Copy)]
+#[derive(Clone, Copy, PartialEq)]
 pub enum Status {
     Waiting,
     Failed,
@@ -40,31 +40,17 @@ pub struct Cell {
 }
 
 // Whether the entry of `c` was not opened yet.
-pub(crate) fn waits(c: Cell) -> bool
-    ensures { result ≡ waiting c.status }
+pub(crate) fn waits(c: &Cell) -> bool
+    ensures { result ≡ waiting c.now.status }
 {
-    let s = c.status;
-    match s {
-        Status::Waiting => true,
-        Status::Failed => false,
-        Status::Wrong => false,
-        Status::Pending => false,
-        Status::Done => false,
-    }
+    c.status == Status::Waiting
 }
 
 // Whether the key of `c` is yet to be tried on the entries.
-pub(crate) fn pends(c: Cell) -> bool
-    ensures { result ≡ pending c.status }
+pub(crate) fn pends(c: &Cell) -> bool
+    ensures { result ≡ pending c.now.status }
 {
-    let s = c.status;
-    match s {
-        Status::Waiting => false,
-        Status::Failed => false,
-        Status::Wrong => false,
-        Status::Pending => true,
-        Status::Done => false,
-    }
+    c.status == Status::Pending
 }
 
 // Answers the cell of an entry that was not opened yet.
@@ -122,13 +108,10 @@ pub(crate) fn open_entry(
 }
 
 // Whether the entry `e`, whose cell is `c`, waits for the key `id`.
-pub(crate) fn names(id: u32, e: Entry, c: Cell) -> bool
-    ensures { result ≡ naming id e c }
+pub(crate) fn names(id: u32, e: &Entry, c: &Cell) -> bool
+    ensures { result ≡ naming id e.now c.now }
 {
-    if e.kwk == id {
-        return waits(c);
-    }
-    false
+    e.kwk == id && waits(c)
 }
 
 // Opens the entry `e` under the key `id`, whose schedule is `schedule`, if it waits for that key. Answers its cell afterwards.
@@ -138,19 +121,17 @@ pub(crate) fn try_on_entry(
     schedule: InverseSchedule,
     size: usize,
     id: u32,
-    e: Entry,
-    c: Cell,
+    e: &Entry,
+    c: &Cell,
 ) -> Cell
     requires tables_value { (tables.now ≡ decipher_tables) × ExpandedInverse schedule.words }
     requires size_value { is_wrapping_size size ≡ true }
-    requires start_le_end { (e.start ≤ e.end) × (e.end ≤ length frame.now) }
-    ensures { (w : WrapKey) (v : List ℕ) → IsEntry frame.now e w → ExpandsInverse v schedule.words →
-        Tried id v size w c result }
+    requires start_le_end { (e.now.start ≤ e.now.end) × (e.now.end ≤ length frame.now) }
+    ensures { (w : WrapKey) (v : List ℕ) → IsEntry frame.now e.now w → ExpandsInverse v schedule.words →
+        Tried id v size w c.now result }
 {
-    if names(id, e, c) {
-        let a = e.start;
-        let b = e.end;
-        return open_entry(tables, schedule, size, &frame[a..b]);
+    if !names(id, e, c) {
+        return *c;
     }
-    c
+    open_entry(tables, schedule, size, &frame[e.start..e.end])
 }

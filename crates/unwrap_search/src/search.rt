@@ -13,7 +13,7 @@ ghost use Rattle.state.specs.Held.{blank_key, keys_of};
 ghost use Rattle.state.specs.declared.held.HeldKey.{HeldKey};
 ghost use Rattle.state.specs.declared.held.Held.{Held};
 ghost use Rattle.unwrap_lending.specs.inner.Lending.{Lends, LendsHeld};
-ghost use Rattle.unwrap_search.specs.inner.Search.{AllTried, Unnamed, Finds, Searched, carried_by, NextRoot, KeyFrom, roots_with};
+ghost use Rattle.unwrap_search.specs.inner.Search.{AllTried, Unnamed, Finds, Searched, carried_by, KeyFrom, roots_with};
 
 use crate::open::{Cell, Entry, Status, blank, names, pends, try_on_entry};
 use aes::{INVERSE_TABLE_WORDS, InverseSchedule, expand_inverse, inverse_tables};
@@ -21,61 +21,38 @@ use state_keys::kinds::WrappingKey;
 use state_keys::limits::WRAP_KEYS;
 use unwrap_lending::value_at;
 
-// The place of a pending cell, or `Nothing` if no cell is pending.
-#[derive(Clone, Copy)]
-pub enum PendingFound {
-    At(usize),
-    Nothing,
-}
-
-// Whether one of the first `n` entries waits for the key `id`.
-fn is_named(id: u32, entries: [Entry; WRAP_KEYS], cells: [Cell; WRAP_KEYS], n: usize) -> bool
-    requires { n ≤ limits.wrap_keys }
-    ensures { result ≡ false → Unnamed id entries cells n }
+// Whether one of `entries` waits for the key `id`. The cell of each entry stands at its place in `cells`.
+fn is_named(id: u32, entries: &[Entry], cells: &[Cell]) -> bool
+    requires { length entries.now ≤ length cells.now }
+    ensures { result ≡ false → Unnamed id entries.now cells.now (length entries.now) }
 {
-    let mut i: usize = 0;
-    while i < n {
-        let e = entries[i];
-        let c = cells[i];
-        if names(id, e, c) {
-            return true;
-        }
-        i += 1;
-    }
-    false
+    entries.iter().zip(cells).any(|(e, c)| names(id, e, c))
 }
 
-// Tries the key `id`, whose schedule is `schedule`, on the first `n` entries. Answers the cells afterwards. `size` is the octet count that
-// a wrapping key must have.
+// Tries the key `id`, whose schedule is `schedule`, on `entries`, and puts into `cells` what becomes of each. `size` is the octet count
+// that a wrapping key must have.
 fn try_on_all(
     frame: &[u8],
     tables: &[u32; INVERSE_TABLE_WORDS],
     schedule: InverseSchedule,
     size: usize,
     id: u32,
-    entries: [Entry; WRAP_KEYS],
-    cells: [Cell; WRAP_KEYS],
-    n: usize,
-) -> [Cell; WRAP_KEYS]
-    requires n_le_wrap_keys { n ≤ limits.wrap_keys }
+    entries: &[Entry],
+    cells: &mut [Cell],
+)
+    requires entries_le_cells { length entries.now ≤ length cells.old }
     requires tables_value { (tables.now ≡ decipher_tables) × ExpandedInverse schedule.words }
     requires size_value { is_wrapping_size size ≡ true }
-    requires lists { (l : List WrapKey) × Lists frame.now entries n l }
-    ensures { (l : List WrapKey) (v : List ℕ) → Lists frame.now entries n l →
-        ExpandsInverse v schedule.words → AllTried id v size l cells result }
+    requires lists { (l : List WrapKey) × Lists frame.now entries.now (length entries.now) l }
+    ensures { (l : List WrapKey) (v : List ℕ) → Lists frame.now entries.now (length entries.now) l →
+        ExpandsInverse v schedule.words → AllTried id v size l cells.old cells.new }
 {
-    let mut out = cells;
-    let mut i: usize = 0;
-    while i < n {
-        let e = entries[i];
-        let c = out[i];
-        out[i] = try_on_entry(frame, tables, schedule, size, id, e, c);
-        i += 1;
+    for (i, e) in entries.iter().enumerate() {
+        cells[i] = try_on_entry(frame, tables, schedule, size, id, e, &cells[i]);
     }
-    out
 }
 
-// Tries `key`, of Key ID `id`, on the first `n` entries. Answers the cells afterwards. The schedule is expanded only if a waiting entry
+// Tries `key`, of Key ID `id`, on `entries`, and puts into `cells` what becomes of each. The schedule is expanded only if a waiting entry
 // names the key.
 fn try_key(
     frame: &[u8],
@@ -83,73 +60,35 @@ fn try_key(
     key: WrappingKey,
     size: usize,
     id: u32,
-    entries: [Entry; WRAP_KEYS],
-    cells: [Cell; WRAP_KEYS],
-    n: usize,
-) -> [Cell; WRAP_KEYS]
-    requires n_le_wrap_keys { n ≤ limits.wrap_keys }
+    entries: &[Entry],
+    cells: &mut [Cell],
+)
+    requires entries_le_cells { length entries.now ≤ length cells.old }
     requires tables_value { (tables.now ≡ decipher_tables) × (is_wrapping_size key.count ≡ true) }
     requires size_value { is_wrapping_size size ≡ true }
-    requires lists { (l : List WrapKey) × Lists frame.now entries n l }
-    ensures { (l : List WrapKey) → Lists frame.now entries n l → AllTried id (value_of key) size l cells result }
+    requires lists { (l : List WrapKey) × Lists frame.now entries.now (length entries.now) l }
+    ensures { (l : List WrapKey) → Lists frame.now entries.now (length entries.now) l →
+        AllTried id (value_of key) size l cells.old cells.new }
 {
-    if is_named(id, entries, cells, n) {
+    if is_named(id, entries, cells) {
         let octets = key.octets;
-        let m = key.count;
-        let schedule = expand_inverse(tables, &octets[..m]);
-        return try_on_all(frame, tables, schedule, size, id, entries, cells, n);
+        let schedule = expand_inverse(tables, &octets[..key.count]);
+        try_on_all(frame, tables, schedule, size, id, entries, cells);
     }
-    cells
 }
 
-// Finds the first of the `n` cells whose key is yet to be tried on the entries.
-fn first_pending(cells: [Cell; WRAP_KEYS], n: usize) -> PendingFound
-    requires { n ≤ limits.wrap_keys }
-    ensures { Finds cells n result }
+// Finds the first of `cells` whose key is yet to be tried on the entries.
+fn first_pending(cells: &[Cell]) -> Option<usize>
+    ensures { Finds cells.now (length cells.now) result }
 {
-    let mut i: usize = 0;
-    while i < n {
-        let c = cells[i];
-        if pends(c) {
-            return PendingFound::At(i);
-        }
-        i += 1;
-    }
-    PendingFound::Nothing
+    cells.iter().position(|c| pends(c))
 }
 
-// Whether one of the first `n` entries has the Key ID `id`.
-pub fn is_carried(id: u32, entries: [Entry; WRAP_KEYS], n: usize) -> bool
-    requires { n ≤ limits.wrap_keys }
-    ensures { (frame : List ℕ) (l : List WrapKey) → Lists frame entries n l → result ≡ carried_by l id }
+// Whether one of `entries` has the Key ID `id`.
+pub fn is_carried(id: u32, entries: &[Entry]) -> bool
+    ensures { (frame : List ℕ) (l : List WrapKey) → Lists frame entries.now (length entries.now) l → result ≡ carried_by l id }
 {
-    let mut i: usize = 0;
-    while i < n {
-        let e = entries[i];
-        if e.id == id {
-            return true;
-        }
-        i += 1;
-    }
-    false
-}
-
-// Finds the first of `ids`, from place `from` on, that none of the first `n` entries carries. Answers `ids.len()` if there is none.
-fn next_root(from: usize, ids: &[u32], entries: [Entry; WRAP_KEYS], n: usize) -> usize
-    requires { (from ≤ length ids.now) × (n ≤ limits.wrap_keys) }
-    ensures lower_bound { (from ≤ result) × (result ≤ length ids.now) }
-    ensures by_index { (frame : List ℕ) (l : List WrapKey) → Lists frame entries n l → NextRoot l ids.now from result }
-{
-    let m = ids.len();
-    let mut i = from;
-    while i < m {
-        if is_carried(ids[i], entries, n) {
-            i += 1;
-        } else {
-            return i;
-        }
-    }
-    i
+    entries.iter().any(|e| e.id == id)
 }
 
 // Makes the wrapping key whose value stands at place `i` of `block`.
@@ -162,56 +101,38 @@ fn key_at(i: usize, block: &[u8]) -> WrappingKey
     made.key
 }
 
-// Opens the first `n` entries along the chains that start with `lent` as key 0, or with one of the held keys that `ids` and `block` lend,
-// if no entry carries its Key ID. Answers the cell of each entry. Each turn tries one key: key 0, then the held keys, then those that
-// entries opened to. One call serves all, because each call of `try_key` in the code takes stack for the cells it returns.
+// Opens `entries` along the chains that start with `lent` as key 0, or with one of the held keys that `ids` and `block` lend, if no entry
+// carries its Key ID. Answers the cell of each entry. One key is tried at a time: key 0, then the held keys, then those that entries opened
+// to.
 pub fn search(
     frame: &[u8],
     lent: WrappingKey,
     ids: &[u32],
     block: &[u8],
-    entries: [Entry; WRAP_KEYS],
-    n: usize,
+    entries: &[Entry],
 ) -> [Cell; WRAP_KEYS]
-    requires n_le_wrap_keys { n ≤ limits.wrap_keys }
     requires count_value { is_wrapping_size lent.count ≡ true }
     requires key { Key (value_of lent) }
-    requires lists { (l : List WrapKey) × Lists frame.now entries n l }
+    requires lists { (l : List WrapKey) × Lists frame.now entries.now (length entries.now) l }
     requires lends_held { (held : Held) × LendsHeld held ids.now block.now }
-    ensures { (l : List WrapKey) (held : Held) → Lists frame.now entries n l →
+    ensures { (l : List WrapKey) (held : Held) → Lists frame.now entries.now (length entries.now) l →
         LendsHeld held ids.now block.now →
         Searched (roots_with (value_of lent) l (keys_of held)) l lent.count result }
 {
     let size = lent.count;
     let tables = inverse_tables();
     let mut cells = [blank(); WRAP_KEYS];
-    let mut key = lent;
-    let mut id: u32 = 0;
-    let mut from: usize = 0;
-    loop {
-        let tried = try_key(frame, &tables, key, size, id, entries, cells, n);
-        cells = tried;
-        from = next_root(from, ids, entries, n);
-        if from < ids.len() {
-            key = key_at(from, block);
-            id = ids[from];
-            from += 1;
-            continue;
-        }
-        match first_pending(cells, n) {
-            PendingFound::At(j) => {
-                let e = entries[j];
-                let c = cells[j];
-                key = c.key;
-                id = e.id;
-                cells[j] = Cell {
-                    status: Status::Done,
-                    key,
-                };
-            }
-            PendingFound::Nothing => {
-                return cells;
-            }
+    try_key(frame, &tables, lent, size, 0, entries, &mut cells);
+    for (i, id) in ids.iter().enumerate() {
+        if !is_carried(*id, entries) {
+            let key = key_at(i, block);
+            try_key(frame, &tables, key, size, *id, entries, &mut cells);
         }
     }
+    while let Some(j) = first_pending(&cells[..entries.len()]) {
+        let key = cells[j].key;
+        cells[j].status = Status::Done;
+        try_key(frame, &tables, key, size, entries[j].id, entries, &mut cells);
+    }
+    cells
 }

@@ -1,5 +1,5 @@
 -- What a search over the entries ends with. Inner.
-use Rattle.std.specs.Prelude.{ℕ, ◌≤◌, ◌<◌, ◌≡◌, Bool, true, false, not, List, [], ◌∷◌, map, eqb, length, get_or}
+use Rattle.std.specs.Prelude.{ℕ, ◌<◌, ◌≡◌, Bool, true, not, List, [], ◌∷◌, map, eqb, length, get_or, Option, Some, None}
 use Rattle.rfc5649.specs.Opens.{Opens}
 use Rattle.wire_attributes.specs.Tree.{WrapKey}
 use Rattle.rules_chains.specs.Chain.{In, Root, Chain, Reached, ChainEnds}
@@ -11,8 +11,6 @@ use Rattle.state_keys.specs.declared.kinds.WrappingKey.{WrappingKey}
 use Rattle.unwrap_search.specs.declared.open.Status.TheVariants.{Waiting, Wrong, Pending, Done}
 use Rattle.unwrap_search.specs.declared.open.Cell.{Cell}
 use Rattle.unwrap_search.specs.declared.open.Entry.{Entry}
-use Rattle.unwrap_search.specs.declared.search.PendingFound.{PendingFound}
-use Rattle.unwrap_search.specs.declared.search.PendingFound.TheVariants.{At, Nothing}
 use Rattle.unwrap_search.specs.inner.Entries.{no_wrap_key, no_entry}
 use Rattle.unwrap_search.specs.inner.Opened.{no_cell, Tried}
 
@@ -39,10 +37,10 @@ pub record PendingAt (cells : List Cell) (n j : ℕ) : Type 0 where
 abbrev pub NonePending : List Cell → ℕ → Type 0
 NonePending cells n = (i : ℕ) → i < n → (cell_at cells i).status ≡ Pending → ⊥
 
--- the answer is the place of a pending cell, or `Nothing` and no cell is pending
-abbrev pub Finds : List Cell → ℕ → PendingFound → Type 0
-Finds cells n (At j) = PendingAt cells n j
-Finds cells n Nothing = NonePending cells n
+-- the answer is the place of a pending cell, or `None` and no cell is pending
+abbrev pub Finds : List Cell → ℕ → Option ℕ → Type 0
+Finds cells n (Some j) = PendingAt cells n j
+Finds cells n None = NonePending cells n
 
 -- number 6 refuses a WRAP_KEY with Key ID 0: no entry has it
 abbrev pub Nonzero : List WrapKey → Type 0
@@ -77,13 +75,6 @@ pub record RootsFit (roots : List Root) (entries : List WrapKey) : Type 0 where
 pub record KeyFrom (k made : WrappingKey) : Type 0 where
   pub value : value_of made ≡ value_of k
   pub size : is_wrapping_size made.count ≡ true
-
--- r is the place of the first of these Key IDs, from `from` on, that no entry carries; or their number if there is none
-pub record NextRoot (entries : List WrapKey) (ids : List ℕ) (from r : ℕ) : Type 0 where
-  pub behind : from ≤ r
-  pub most : r ≤ length ids
-  pub passed : (j : ℕ) → from ≤ j → j < r → carried_by entries (get_or ids j 0) ≡ true
-  pub here : r < length ids → carried_by entries (get_or ids r 0) ≡ false
 
 module _ (roots : List Root) (entries : List WrapKey) (size : ℕ) where
   -- a chain that ends with entry e gives `key`, which has `size` octets

@@ -4,14 +4,14 @@ use Rattle.unwrap_search.proofs.open.try_on_entry.Goals as goal
 
 -- `unwrap_search::open::try_on_entry` meets its contract.
 
-pub returns-then-names : goal.returns-then-names
-returns-then-names c w v is x =
+pub returns-then-not-names : goal.returns-then-not-names
+returns-then-not-names c w v is x =
     let a = c.args in
-    tried-opened a.frame.now a.e w is a.id v a.size a.c
-    (sym c.if-names.true ∙ c.names.ensures)
-    c.open_entry.result (c.open_entry.ensures v x)
+    tried_other a.frame.now a.e.now w is a.id v a.size a.c.now (sym c.if-not-names.true ∙ c.names.ensures)
 
 pub returns : goal.returns
 returns c w v is x =
     let a = c.args in
-    tried_other a.frame.now a.e w is a.id v a.size a.c (sym c.if-names.false ∙ c.names.ensures)
+    tried-opened a.frame.now a.e.now w is a.id v a.size a.c.now
+    (sym c.if-not-names.false ∙ c.names.ensures)
+    c.open_entry.result (c.open_entry.ensures v x)

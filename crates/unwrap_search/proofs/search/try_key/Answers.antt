@@ -11,8 +11,6 @@ use Rattle.unwrap_search.proofs.Searching.{is-key-size}
 use borrow.Author.Rules.{rules}
 use Rattle.unwrap_search.proofs.search.try_key.Goals as goal
 
--- `unwrap_search::search::try_key` meets its contract.
-
 pub slice_bounds-octets-end : goal.slice_bounds-octets-end
 slice_bounds-octets-end c =
     let h = wrapping-le c.args.key.count c.requires.tables_value.1 in
@@ -25,35 +23,21 @@ slice_bounds-expand_inverse-end c =
     let e : length c.args.key.octets ≡ 32 = search rules in
     sym (length-take-le c.args.key.count c.args.key.octets (omega arith))
 
-pub expand_inverse-schedule-requires : goal.expand_inverse-schedule-requires
-expand_inverse-schedule-requires c =
+pub expand_inverse-schedule-requires-clause-t : goal.expand_inverse-schedule-requires-clause-t
+expand_inverse-schedule-requires-clause-t c =
     let h = wrapping-le c.args.key.count c.requires.tables_value.1 in
     let e : length c.args.key.octets ≡ 32 = search rules in
     let n : length (take c.args.key.count c.args.key.octets) ≡ c.args.key.count =
     length-take-le c.args.key.count c.args.key.octets (omega arith) in
-    record {
-      tables_value = c.requires.tables_value.0;
-      t = subst (λ (m : ℕ). T (is_key m)) (sym n) (is-key-size c.args.key.count c.requires.tables_value.1);
-    }
-
-pub try_on_all-requires : goal.try_on_all-requires
-try_on_all-requires c =
-    let a = c.args in
-    let k = take a.key.count a.key.octets in
-    record {
-      n_le_wrap_keys = c.requires.n_le_wrap_keys;
-      tables_value = (c.requires.tables_value.0, record { key = k; expands = c.expand_inverse-schedule.ensures });
-      size_value = c.requires.size_value;
-      lists = c.requires.lists;
-    }
+    subst (λ (m : ℕ). T (is_key m)) (sym n) (is-key-size c.args.key.count c.requires.tables_value.1)
 
 pub returns-then-is_named : goal.returns-then-is_named
 returns-then-is_named c l h =
     let a = c.args in
     c.try_on_all.ensures l (take a.key.count a.key.octets) h c.expand_inverse-schedule.ensures
 
-pub returns : goal.returns
-returns c l h =
+pub returns-else-is_named : goal.returns-else-is_named
+returns-else-is_named c l h =
     let a = c.args in
-    unnamed-all a.id (take a.key.count a.key.octets) a.size l a.cells a.frame.now a.entries a.n h
+    unnamed-all a.id (take a.key.count a.key.octets) a.size l a.cells.now a.frame.now a.entries.now _ h
     (c.is_named.ensures c.if-is_named.false)
