@@ -7,7 +7,7 @@ ghost use Rattle.state_keys.specs.Kinds.{wrapping_key, esp_key, encryption_key, 
 use crate::rooms::{ENCRYPTION_KEY, SA_OCTETS, WRAPPING_KEY};
 
 // A wrapping key: 16, 24 or 32 octets.
-#[derive(Clone, Copy)]
+#[derive(Clone, Copy, PartialEq)]
 pub struct WrappingKey {
     pub octets: [u8; WRAPPING_KEY],
     pub count: usize,

@@ -1,11 +1,12 @@
 -- Number 8 of the entries, from the cells that a search ends with.
 use native.Mathlib.Omega.{arith}
-use Prim.Native.Nat.{ℕ, ◌<◌}
+use Prim.Native.Nat.{ℕ, ◌≤◌, ◌<◌}
 use mathlib.Core.Path.{◌≡◌, ap, sym, ◌∙◌, subst}
 use mathlib.Core.Bool.{Bool, true, false}
 use mathlib.Core.Logic.{⊎_elim}
 use mathlib.Core.List.{List}
-use lib.ListN.{length}
+use lib.ListN.{length, take}
+use lib.Seq.{length-take-le, get_or-take}
 use Rattle.wire_attributes.specs.Tree.{WrapKey}
 use Rattle.state_keys.specs.Kinds.{wrapping_of, value_of}
 use Rattle.rules_chains.specs.Chain.{Root, Reached}
@@ -15,8 +16,29 @@ use Rattle.unwrap_search.specs.declared.open.Status.TheVariants.{Wrong, Done}
 use Rattle.unwrap_search.specs.declared.open.Entry.{Entry}
 use Rattle.unwrap_search.specs.declared.open.Cell.{Cell}
 use Rattle.unwrap_search.specs.inner.Entries.{Lists}
+use Rattle.unwrap_search.specs.inner.Opened.{no_cell}
 use Rattle.unwrap_search.specs.inner.Search.{key_at, cell_at, Searched, FoundIn, OneEach, Nonzero}
 use Rattle.unwrap_conflicts.specs.inner.Values.{Decides, AnyClash, AnyWrong}
+
+-- ---- the first n cells, as a slice
+module _ (cells : List Cell) (n : ℕ) (h : n ≤ length cells) where
+  at-first : (i : ℕ) → i < n → cell_at (take n cells) i ≡ cell_at cells i
+  at-first i g = get_or-take n cells i no_cell g
+
+  pub wrong-first : AnyWrong (take n cells) (length (take n cells)) → AnyWrong cells n
+  wrong-first w =
+      let m = length-take-le n cells h in
+      let g : w.place < n = let z = w.inside in omega arith in
+      record { place = w.place; inside = g; holds = ap (λ (c : Cell). c.status) (sym (at-first w.place g)) ∙ w.holds }
+
+  pub wrong-back : AnyWrong cells n → AnyWrong (take n cells) (length (take n cells))
+  wrong-back w =
+      let m = length-take-le n cells h in
+      record {
+        place = w.place;
+        inside = let z = w.inside in omega arith;
+        holds = ap (λ (c : Cell). c.status) (at-first w.place w.inside) ∙ w.holds;
+      }
 
 module _ (frame : List ℕ) (places : List Entry) (n : ℕ) (cells : List Cell) (roots : List Root) (l : List WrapKey) (size : ℕ)
     (lists : Lists frame places n l) (s : Searched roots l size cells) where

@@ -4,8 +4,8 @@ use Prim.Native.Nat.{ℕ, ◌+◌, ◌≤◌, ◌<◌}
 use mathlib.Core.Path.{◌≡◌, refl, sym, ◌∙◌, subst}
 use mathlib.Core.List.{List}
 use borrow.Author.Count.{below_more}
-use lib.ListN.{length, get_or, set}
-use lib.Seq.{get_or-set_same, get_or-set_other}
+use lib.ListN.{length, take, get_or, set}
+use lib.Seq.{get_or-set_same, get_or-set_other, get_or-take, length-take-le}
 use Rattle.wire_attributes.specs.Tree.{WrapKey}
 use Rattle.unwrap_search.specs.declared.open.Entry.{Entry}
 use Rattle.unwrap_search.specs.declared.open.Cell.{Cell}
@@ -52,3 +52,16 @@ module _ (k : ℕ) (v : List ℕ) (size : ℕ) (entries : List WrapKey) (cells :
 pub entry_at : (frame : List ℕ) (places : List Entry) (n : ℕ) (l : List WrapKey) → Lists frame places n l → (i : ℕ) (d : Entry) → i < n →
     i < length places → IsEntry frame (get_or places i d) (key_at l i)
 entry_at frame places n l h i d g k = subst (λ (a : Entry). IsEntry frame a (key_at l i)) (sym (get_d_any places i d no_entry k)) (h.at i g)
+
+-- the first n of an array of places, as a slice
+pub lists-first : (frame : List ℕ) (places : List Entry) (n : ℕ) (l : List WrapKey) → n ≤ length places → Lists frame places n l →
+    Lists frame (take n places) (length (take n places)) l
+lists-first frame places n l g h =
+    let m : length (take n places) ≡ n = length-take-le n places g in
+    record {
+      count = h.count ∙ sym m;
+      within = let z = h.within in omega arith;
+      at = λ i k.
+          let q : i < n = omega arith in
+          subst (λ (e : Entry). IsEntry frame e (key_at l i)) (sym (get_or-take n places i no_entry q)) (h.at i q);
+    }
