@@ -1,5 +1,5 @@
 // What is kept of a search once its cells are gone: the numbers of the entries, array by array, and their levels.
-ghost use Rattle.std.specs.Prelude.{◌≡◌, ◌≤◌};
+ghost use Rattle.std.specs.Prelude.{◌≡◌, ◌≤◌, length};
 ghost use Rattle.state_keys.specs.Limits.{limits};
 ghost use Rattle.unwrap_paths.specs.inner.Links.{mark_of, Numbered};
 ghost use Rattle.unwrap_paths.specs.inner.Kept.{LinksKept, LinksFit};
@@ -56,35 +56,34 @@ fn mark(c: Cell, carried: bool) -> Mark
     }
 }
 
-// Reads the numbers and the marks of the first `n` entries off the cells.
-fn numbers_of(entries: [Entry; WRAP_KEYS], cells: [Cell; WRAP_KEYS], n: usize) -> LinkNumbers
-    requires { n ≤ limits.wrap_keys }
-    ensures { Numbered n entries cells result.ids result.kwks result.marks }
+// Reads the numbers and the marks of `entries` off their cells, the first of `cells`.
+fn numbers_of(entries: &[Entry], cells: &[Cell]) -> LinkNumbers
+    requires { (length entries.now ≤ limits.wrap_keys) × (length entries.now ≤ length cells.now) }
+    ensures { Numbered (length entries.now) entries.now cells.now result.ids result.kwks result.marks }
 {
     let mut ids = [0u32; WRAP_KEYS];
     let mut kwks = [0u32; WRAP_KEYS];
     let mut marks = [Mark::NotOpened; WRAP_KEYS];
-    for i in 0..n {
-        let e = entries[i];
-        let c = cells[i];
+    for (i, e) in entries.iter().enumerate() {
         ids[i] = e.id;
         kwks[i] = e.kwk;
-        marks[i] = mark(c, is_carried(e.kwk, entries, n));
+        marks[i] = mark(cells[i], is_carried(e.kwk, entries));
     }
     LinkNumbers { ids, kwks, marks }
 }
 
-// Keeps of a search over the first `n` entries what the way back reads: their numbers and their levels.
-pub fn links_of(entries: [Entry; WRAP_KEYS], cells: [Cell; WRAP_KEYS], n: usize) -> Links
-    requires { n ≤ limits.wrap_keys }
-    ensures { LinksKept n entries cells result }
+// Keeps of a search over `entries` what the way back reads: their numbers and their levels. Their cells are the first of `cells`.
+pub fn links_of(entries: &[Entry], cells: &[Cell]) -> Links
+    requires { (length entries.now ≤ limits.wrap_keys) × (length entries.now ≤ length cells.now) }
+    ensures { LinksKept (length entries.now) entries.now cells.now result }
 {
-    let LinkNumbers { ids, kwks, marks } = numbers_of(entries, cells, n);
-    let levels = levels(&ids, &kwks, &marks, n);
+    let LinkNumbers { ids, kwks, marks } = numbers_of(entries, cells);
+    let count = entries.len();
+    let levels = levels(&ids, &kwks, &marks, count);
     Links {
         ids,
         kwks,
         levels,
-        count: n,
+        count,
     }
 }

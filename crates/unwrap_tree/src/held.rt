@@ -1,5 +1,5 @@
 // Makes the list of all keys that a search reached.
-ghost use Rattle.std.specs.Prelude.{◌≡◌, true, List, ℕ, ◌≤◌};
+ghost use Rattle.std.specs.Prelude.{◌≡◌, true, List, ℕ, ◌≤◌, length};
 ghost use Rattle.wire_attributes.specs.Tree.{WrapKey};
 ghost use Rattle.state_keys.specs.Algorithms.{is_wrapping_size};
 ghost use Rattle.state_keys.specs.Limits.{limits};
@@ -12,7 +12,6 @@ ghost use Rattle.unwrap_tree.specs.inner.Joins.{Joins};
 ghost use Rattle.unwrap_tree.specs.inner.AllReached.{HeldAre};
 
 use state::held::{Held, HeldKey};
-use state_keys::limits::WRAP_KEYS;
 use unwrap_conflicts::is_done;
 use unwrap_paths::links::Links;
 use unwrap_search::open::{Cell, Entry};
@@ -43,20 +42,16 @@ fn with_cell(held: Held, e: Entry, c: Cell) -> Held
     held
 }
 
-// Makes the list of the keys that the first `n` entries reach. `cells` are the cells of their search.
-pub fn held_of(entries: [Entry; WRAP_KEYS], cells: [Cell; WRAP_KEYS], n: usize) -> Held
-    requires { n ≤ limits.wrap_keys }
-    ensures { (frame : List ℕ) (roots : List Root) (l : List WrapKey) (size : ℕ) → Lists frame entries n l →
-        Searched roots l size cells → Nonzero l → is_wrapping_size size ≡ true → (EntriesConflict roots l size → ⊥) →
+// Makes the list of the keys that `entries` reach. The cells of their search are the first of `cells`.
+pub fn held_of(entries: &[Entry], cells: &[Cell]) -> Held
+    requires { (length entries.now ≤ limits.wrap_keys) × (length entries.now ≤ length cells.now) }
+    ensures { (frame : List ℕ) (roots : List Root) (l : List WrapKey) (size : ℕ) → Lists frame entries.now (length entries.now) l →
+        Searched roots l size cells.now → Nonzero l → is_wrapping_size size ≡ true → (EntriesConflict roots l size → ⊥) →
         HeldAre roots l size limits result × (held_formed limits result ≡ true) }
 {
     let mut held = Held::new();
-    let mut i: usize = 0;
-    while i < n {
-        let e = entries[i];
-        let c = cells[i];
-        held = with_cell(held, e, c);
-        i += 1;
+    for (i, e) in entries.iter().enumerate() {
+        held = with_cell(held, *e, cells[i]);
     }
     held
 }

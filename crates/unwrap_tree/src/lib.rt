@@ -52,9 +52,10 @@ pub fn reach_keys(
     let list = entries::entries(kd, bag, meaning, place);
     let places = list.places;
     let n = list.count;
-    let cells = unwrap_search::search::search(kd, zero, ids, block, places, n);
-    let links = links_of(places, cells, n);
-    if unwrap_conflicts::entries_conflict(places, cells, n) {
+    let entries = &places[..n];
+    let cells = unwrap_search::search::search(kd, zero, ids, block, entries);
+    let links = links_of(entries, &cells);
+    if unwrap_conflicts::entries_conflict(entries, &cells) {
         return ReachedKeys {
             conflict: true,
             held: Held::new(),
@@ -63,7 +64,7 @@ pub fn reach_keys(
     }
     ReachedKeys {
         conflict: false,
-        held: held::held_of(places, cells, n),
+        held: held::held_of(entries, &cells),
         links,
     }
 }

@@ -1,14 +1,5 @@
-use Prim.Native.Nat.{◌-◌, ◌≤◌}
-use mathlib.Core.Path.{◌≡◌}
-use lib.ListN.{length}
-use Rattle.state_keys.specs.Limits.{limits}
 use Rattle.unwrap_tree.proofs.Entering.{Entered}
 use Rattle.unwrap_tree.proofs.held.held_of.Given as goal
 
 abbrev pub invariant-loop-i : goal.invariant-loop-i
-invariant-loop-i l =
-    (l.n ≤ limits.wrap_keys) × (length l.entries ≡ limits.wrap_keys) × (length l.cells ≡ limits.wrap_keys) × (l.i ≤ l.n) ×
-    Entered l.entries l.cells l.i l.held
-
-abbrev pub decreases-loop-i : goal.decreases-loop-i
-decreases-loop-i l = l.n - l.i
+invariant-loop-i l = Entered l.entries l.cells l.i l.held
