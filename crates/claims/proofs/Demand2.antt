@@ -8,7 +8,7 @@ use Rattle.octets.specs.Walk.{whole}
 use Rattle.fips197.specs.Key.{Key}
 use Rattle.keywrap.specs.Answers.{OpenAnswers, WrapAnswers}
 use Rattle.rfc5649.specs.Opens.{Opens}
-use Rattle.keywrap.specs.declared.WrapAnswer.{WrapAnswer}
+use Rattle.std.specs.Prelude.{Option}
 use Rattle.wire_frames.specs.Frame.{Frame, frame}
 use Rattle.wire_frames.specs.Grammar.{IsFrame}
 use Rattle.state_keys.specs.Limits.{Limits}
@@ -35,10 +35,10 @@ outcome-one = ofDetermined.outcome-one
 pub opens_one : (key wrapped x y : List ℕ) → Key key → Opens key wrapped x → Opens key wrapped y → x ≡ y
 opens_one = ofRfc5649Determined.opens_one
 
-pub open-determined : (key wrapped room : List ℕ) → Octets key → (a b : WrapAnswer) (r s : List ℕ) → OpenAnswers key wrapped room a r →
+pub open-determined : (key wrapped room : List ℕ) → Octets key → (a b : Option ℕ) (r s : List ℕ) → OpenAnswers key wrapped room a r →
     OpenAnswers key wrapped room b s → (a ≡ b) × (r ≡ s)
 open-determined = ofKeywrapDetermined.open-determined
 
-pub wrap-determined : (key octets room : List ℕ) (a b : WrapAnswer) (r s : List ℕ) → WrapAnswers key octets room a r →
+pub wrap-determined : (key octets room : List ℕ) (a b : Option ℕ) (r s : List ℕ) → WrapAnswers key octets room a r →
     WrapAnswers key octets room b s → (a ≡ b) × (r ≡ s)
 wrap-determined = ofKeywrapDetermined.wrap-determined

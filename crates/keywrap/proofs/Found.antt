@@ -75,6 +75,13 @@ module _ (s : List ℕ) (n : ℕ) (is : Registers 33 s) (least : 1 ≤ n) (most 
         ap length out-is ∙ length-append (register_octets r) (replicate (256 - 8 * n) 0)
         ∙ omega (arith, length-r, length-replicate {A = ℕ} (256 - 8 * n) 0)
 
+    -- the blocks hold the octets that are counted
+    pub padded-holds : (m ≡ 0 → ⊥) → m ≤ length (take (8 * n) out)
+    padded-holds nonzero =
+        let e = (count-told (register s 0) n m counted nonzero).1 in
+        let l = length-take-le (8 * n) out (omega (arith, length-out)) in
+        omega arith
+
     out-octets : Octets out
     out-octets =
         subst Octets (sym out-is)

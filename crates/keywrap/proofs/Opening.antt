@@ -11,11 +11,11 @@ use lib.ListN.{length, take, drop, replicate, length-append}
 use lib.Seq.{take_at, length-take-le}
 use Rattle.octets.specs.Octets.{Octets}
 use Rattle.fips197.specs.Key.{Key}
-use Rattle.keywrap.specs.declared.WrapAnswer.{WrapAnswer}
-use Rattle.keywrap.specs.declared.WrapAnswer.TheVariants.{No}
+use Rattle.std.specs.Prelude.{Option, None, Some}
 use Rattle.rfc5649.specs.Wrap.{blocks, registers}
-use Rattle.keywrap.specs.Answers.{Opening, Answers, OpenAnswers, Wrote}
-use Rattle.keywrap.specs.inner.Blank.{blank}
+use Rattle.keywrap.specs.Answers.{Opening, OpenAnswers, Wrote}
+use Rattle.keywrap.specs.declared.Opened.{Opened}
+use Rattle.keywrap.specs.inner.Blank.{blank, AnswersBlank, OpensBlank}
 use Rattle.rfc5649.specs.inner.Unwrap.{backward, Begins}
 use Rattle.keywrap.specs.inner.Room.{answer_by, room_by, put_answer, put_room}
 use Rattle.rfc5649.proofs.Registers.{registers-are}
@@ -97,8 +97,9 @@ module _ (key w s : List ℕ) (n : ℕ) (is : Key key) (o : Octets w) (size : le
       same : blocks (length x) ≡ n
       same = omega (arith, size, length-wrapped key w x is h.opens)
 
-  pub opened : (a : WrapAnswer) (after : List ℕ) → Answers (Begins n (take (suc n) s)) blank a after → OpenAnswers key w blank a after
-  opened = answers-map (Begins n (take (suc n) s)) (Opening key w blank) blank to from
+  pub opened : (r : Option Opened) → AnswersBlank (Begins n (take (suc n) s)) r → OpensBlank key w r
+  opened None = answers-map (Begins n (take (suc n) s)) (Opening key w blank) blank to from None blank
+  opened (Some o) = answers-map (Begins n (take (suc n) s)) (Opening key w blank) blank to from (Some o.count) o.octets
 
 -- ---- into lent room
 
@@ -107,7 +108,7 @@ module _ (key w room : List ℕ) (is : Key key) where
   unfolding blank
   more_room x h = record { key-size = h.key-size; opens = h.opens; holds = h.opens.most }
 
-  pub put-none : {after : List ℕ} → OpenAnswers key w blank No after → OpenAnswers key w room No room
+  pub put-none : {after : List ℕ} → OpenAnswers key w blank None after → OpenAnswers key w room None room
   put-none h = record { none = λ x g. h.none x (more_room x g); room-is = refl }
 
   module _ (n : ℕ) (octets : List ℕ) (h : Wrote (Opening key w blank) blank n octets) where
@@ -117,11 +118,11 @@ module _ (key w room : List ℕ) (is : Key key) where
     front : take n octets ≡ h.x
     front = ap (take n) h.room-is ∙ take_at h.x (drop (length h.x) blank) n h.count
 
-    pub put_some : {a : WrapAnswer} {after : List ℕ} → a ≡ put_answer (take n octets) room → after ≡ put_room (take n octets) room
+    pub put_some : {a : Option ℕ} {after : List ℕ} → a ≡ put_answer (take n octets) room → after ≡ put_room (take n octets) room
         → OpenAnswers key w room a after
     unfolding put_answer put_room
     put_some {a} {after} ea er =
-        subst (λ (b : WrapAnswer). OpenAnswers key w room b after) (sym (ea ∙ ap (λ (x : List ℕ). put_answer x room) front))
+        subst (λ (b : Option ℕ). OpenAnswers key w room b after) (sym (ea ∙ ap (λ (x : List ℕ). put_answer x room) front))
         (subst (λ (r : List ℕ). OpenAnswers key w room (put_answer h.x room) r) (sym (er ∙ ap (λ (x : List ℕ). put_room x room) front))
         (by (leb (length h.x) (length room)) refl))
       where

@@ -33,17 +33,17 @@ module _ (key s : List ℕ) (t i a r : ℕ) (ha : a < 256 ^ 8) (hr : r < 256 ^ 8
 -- ---- a turn of a loop
 
 module _ (key s₀ : List ℕ) (base i : ℕ) {s s' : List ℕ} where
-  pub row-turn : s ≡ row key base i s₀ → s' ≡ step key (base + (i + 1)) (i + 1) s → s' ≡ row key base (i + 1) s₀
+  pub row-turn : s ≡ row key base i s₀ → s' ≡ step key (base + i + 1) (i + 1) s → s' ≡ row key base (i + 1) s₀
   unfolding row
   row-turn e h =
-      h ∙ ap (λ (j : ℕ). step key (base + j) j s) (add-one i) ∙ ap (step key (base + suc i) (suc i)) e
+      h ∙ ap₂ (λ (t j : ℕ). step key t j s) (let z : base + i + 1 ≡ base + suc i = omega arith in z) (add-one i) ∙ ap (step key (base + suc i) (suc i)) e
       ∙ ap (λ (j : ℕ). row key base j s₀) (sym (add-one i))
 
 module _ (key s : List ℕ) (base i : ℕ) (more : 0 < i) {x s' : List ℕ} where
-  pub unrow-turn : unrow key base i s ≡ x → s' ≡ unstep key (base + i) i s → unrow key base (i - 1) s' ≡ x
+  pub unrow-turn : unrow key base i s ≡ x → s' ≡ unstep key (base + (i - 1) + 1) (i - 1 + 1) s → unrow key base (i - 1) s' ≡ x
   unfolding unrow
   unrow-turn e h =
-      ap (unrow key base (i - 1)) (h ∙ ap (λ (j : ℕ). unstep key (base + j) j s) back)
+      ap (unrow key base (i - 1)) (h ∙ ap₂ (λ (t j : ℕ). unstep key t j s) (let z : base + (i - 1) + 1 ≡ base + suc (i - 1) = omega arith in z) (add-one (i - 1)))
       ∙ sym (ap (λ (j : ℕ). unrow key base j s) back) ∙ e
     where
       back : i ≡ suc (i - 1)

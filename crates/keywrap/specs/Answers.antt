@@ -1,10 +1,8 @@
 -- The answers of wrapping and opening one key into lent room. Document 01, "What a member is": "These write the result at the room's start
 -- and leave the rest; on a wrong key size, a wrong octet count, a failed check or too little room they answer "no" and the room stays as
 -- lent."
-use Rattle.std.specs.Prelude.{◌≡◌, ℕ, ◌≤◌, List, ◌++◌, T, length, drop}
+use Rattle.std.specs.Prelude.{◌≡◌, ℕ, ◌≤◌, List, ◌++◌, T, length, drop, Option, None, Some}
 use Rattle.fips197.specs.Key.{is_key}
-use Rattle.keywrap.specs.declared.WrapAnswer.{WrapAnswer}
-use Rattle.keywrap.specs.declared.WrapAnswer.TheVariants.{No, Count}
 use Rattle.rfc5649.specs.Wrap.{wrap_of}
 use Rattle.rfc5649.specs.Opens.{Opens}
 
@@ -39,14 +37,14 @@ pub record NoResult (Result : List ℕ → Type 0) (room after : List ℕ) : Typ
   pub room-is : after ≡ room
 
 -- what an answer says, where `Result` tells the results to be written: a count says that one was written, "no" that there is none
-abbrev pub Answers : (List ℕ → Type 0) → List ℕ → WrapAnswer → List ℕ → Type 0
-Answers Result room (Count n) after = Wrote Result room n after
-Answers Result room No after = NoResult Result room after
+abbrev pub Answers : (List ℕ → Type 0) → List ℕ → Option ℕ → List ℕ → Type 0
+Answers Result room (Some n) after = Wrote Result room n after
+Answers Result room None after = NoResult Result room after
 
 -- `wrap`
-abbrev pub WrapAnswers : List ℕ → List ℕ → List ℕ → WrapAnswer → List ℕ → Type 0
+abbrev pub WrapAnswers : List ℕ → List ℕ → List ℕ → Option ℕ → List ℕ → Type 0
 WrapAnswers key octets room = Answers (Wrapping key octets room) room
 
 -- `open`
-abbrev pub OpenAnswers : List ℕ → List ℕ → List ℕ → WrapAnswer → List ℕ → Type 0
+abbrev pub OpenAnswers : List ℕ → List ℕ → List ℕ → Option ℕ → List ℕ → Type 0
 OpenAnswers key wrapped room = Answers (Opening key wrapped room) room

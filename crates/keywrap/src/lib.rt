@@ -21,31 +21,19 @@ ghost use Rattle.keywrap.specs.inner.Room.{put_answer, put_room};
 use aes::{INVERSE_TABLE_WORDS, InverseSchedule, SCHEDULE_WORDS};
 use sizes::{KEY_128, KEY_192, KEY_256, LEAST_WRAPPED, MOST_OCTETS, MOST_WRAPPED, REGISTERS};
 
-// The answer of `wrap` and `open`: document 01's "no", or the count of octets written at the room's start.
-#[derive(Clone, Copy)]
-pub enum WrapAnswer {
-    No,
-    Count(usize),
-}
-
-// The answer of `open_under`: `answer` as `open` gives it, and in `octets` the opened octets with zeros behind them (zeros alone for `No`).
+// What `open_under` opened: the octets with zeros behind them, and how many they are.
 #[derive(Clone, Copy)]
 pub struct Opened {
-    pub answer: WrapAnswer,
     pub octets: [u8; MOST_OCTETS],
+    pub count: usize,
 }
 
 // Whether a key can have `count` octets.
+#[tactic(auto, unfolding(fips197::specs::Key::is_key))]
 fn is_key(count: usize) -> bool
     ensures { result ≡ is_key count }
 {
-    if count == KEY_128 {
-        return true;
-    }
-    if count == KEY_192 {
-        return true;
-    }
-    count == KEY_256
+    count == KEY_128 || count == KEY_192 || count == KEY_256
 }
 
 // Wraps `octets` under `key` and writes the result at the start of `room`.
@@ -63,27 +51,24 @@ fn write_wrapped(key: &[u8], octets: &[u8], room: &mut [u8])
     load::store(&s[..end], room);
 }
 
-// Wraps `octets` (1 to 256) under `key` (16, 24 or 32 octets) and writes the result at the start of `room`. On other sizes, or too little
-// room, it answers `No` and leaves `room` as lent.
-pub fn wrap(key: &[u8], octets: &[u8], room: &mut [u8]) -> WrapAnswer
+// Wraps `octets` (1 to 256) under `key` (16, 24 or 32 octets) and writes the result at the start of `room`. Answers how many octets it wrote.
+// On other sizes, or too little room, it answers `None`, document 01's "no", and leaves `room` as lent.
+pub fn wrap(key: &[u8], octets: &[u8], room: &mut [u8]) -> Option<usize>
     ensures { WrapAnswers key.now octets.now room.old result room.new }
 {
     let m = octets.len();
-    if m == 0 {
-        return WrapAnswer::No;
-    }
-    if MOST_OCTETS < m {
-        return WrapAnswer::No;
+    if m == 0 || MOST_OCTETS < m {
+        return None;
     }
     let n = 8 * ((m + 7) / 8 + 1);
     if room.len() < n {
-        return WrapAnswer::No;
+        return None;
     }
-    if is_key(key.len()) {
-        write_wrapped(key, octets, room);
-        return WrapAnswer::Count(n);
+    if !is_key(key.len()) {
+        return None;
     }
-    WrapAnswer::No
+    write_wrapped(key, octets, room);
+    Some(n)
 }
 
 // Undoes the steps of wrapping on the registers of `wrapped`, which has `n` blocks behind A. Answers A, R[1], .., R[n], and zeros behind.
@@ -109,49 +94,39 @@ pub fn open_under(
     tables: &[u32; INVERSE_TABLE_WORDS],
     schedule: InverseSchedule,
     wrapped: &[u8],
-) -> Opened
+) -> Option<Opened>
     requires { (tables.now ≡ decipher_tables) × ExpandedInverse schedule.words }
-    ensures { (k : List ℕ) → ExpandsInverse k schedule.words → OpensBlank k wrapped.now result.answer result.octets }
+    ensures { (k : List ℕ) → ExpandsInverse k schedule.words → OpensBlank k wrapped.now result }
 {
     let size = wrapped.len();
-    if size < LEAST_WRAPPED {
-        return verify::refuse();
+    if size < LEAST_WRAPPED || MOST_WRAPPED < size || size % 8 != 0 {
+        return None;
     }
-    if MOST_WRAPPED < size {
-        return verify::refuse();
-    }
-    if size % 8 == 0 {
-        let n = size / 8 - 1;
-        return verify::check_registers(unwrap_registers(tables, &schedule.words, wrapped, n), n);
-    }
-    verify::refuse()
+    let n = size / 8 - 1;
+    verify::check_registers(unwrap_registers(tables, &schedule.words, wrapped, n), n)
 }
 
-// Writes `octets` at the start of `room`. Where they do not fit, it answers `No` and leaves `room` as lent.
-fn put(octets: &[u8], room: &mut [u8]) -> WrapAnswer
+// Writes `octets` at the start of `room`. Where they do not fit, it answers `None` and leaves `room` as lent.
+fn put(octets: &[u8], room: &mut [u8]) -> Option<usize>
     ensures value { result ≡ put_answer octets.now room.old }
     ensures room_after { room.new ≡ put_room octets.now room.old }
 {
     if octets.len() <= room.len() {
-        return WrapAnswer::Count(octets::copying::copy(octets, room));
+        return Some(octets::copying::copy(octets, room));
     }
-    WrapAnswer::No
+    None
 }
 
-// Opens `wrapped` under `key` (16, 24 or 32 octets) and writes the result at the start of `room`. On other sizes, a failed check or too
-// little room, it answers `No` and leaves `room` as lent.
-pub fn open(key: &[u8], wrapped: &[u8], room: &mut [u8]) -> WrapAnswer
+// Opens `wrapped` under `key` (16, 24 or 32 octets) and writes the result at the start of `room`. Answers how many octets it wrote. On other
+// sizes, a failed check or too little room, it answers `None`, document 01's "no", and leaves `room` as lent.
+pub fn open(key: &[u8], wrapped: &[u8], room: &mut [u8]) -> Option<usize>
     ensures { OpenAnswers key.now wrapped.now room.old result room.new }
 {
-    if is_key(key.len()) {
-        let tables = aes::inverse_tables();
-        let opened = open_under(&tables, aes::expand_inverse(&tables, key), wrapped);
-        let octets = opened.octets;
-        let answer = opened.answer;
-        match answer {
-            WrapAnswer::No => return WrapAnswer::No,
-            WrapAnswer::Count(n) => return put(&octets[..n], room),
-        }
+    if !is_key(key.len()) {
+        return None;
     }
-    WrapAnswer::No
+    let tables = aes::inverse_tables();
+    let opened = open_under(&tables, aes::expand_inverse(&tables, key), wrapped)?;
+    let n = opened.count;
+    put(&opened.octets[..n], room)
 }

@@ -11,10 +11,8 @@ pub(crate) fn load(octets: &[u8], s: &mut [u64])
     requires { length octets.now ≡ 8 * length s.old }
     ensures { s.new ≡ registers (length s.old) octets.now }
 {
-    let mut i = 0;
-    while i < s.len() {
-        s[i] = be64_at(octets, 8 * i);
-        i += 1;
+    for (i, register) in s.iter_mut().enumerate() {
+        *register = be64_at(octets, 8 * i);
     }
 }
 
@@ -23,12 +21,9 @@ pub(crate) fn store(s: &[u64], room: &mut [u8])
     requires { 8 * length s.now ≤ length room.old }
     ensures { room.new ≡ written (register_octets s.now) room.old }
 {
-    let mut i = 0;
-    while i < s.len() {
-        let b = octets_of(s[i]);
+    for (i, register) in s.iter().enumerate() {
         let at = 8 * i;
-        octets::copying::copy(&b, &mut room[at..]);
-        i += 1;
+        octets::copying::copy(&octets_of(*register), &mut room[at..]);
     }
 }
 

@@ -35,10 +35,8 @@ fn unrow_in(
     requires base_bound { (base ≤ 160) × (n ≤ 32) × (n < length s.old) }
     ensures { (key : List ℕ) → ExpandsInverse key schedule.now → s.new ≡ unrow key base n s.old }
 {
-    let mut i = n;
-    while 0 < i {
-        unstep_in(tables, schedule, s, (base + i) as u64, i);
-        i -= 1;
+    for i in (0..n).rev() {
+        unstep_in(tables, schedule, s, (base + i + 1) as u64, i + 1);
     }
 }
 
@@ -53,9 +51,7 @@ fn unrows_in(
     requires n_bound { (n ≤ 32) × (n < length s.old) }
     ensures { (key : List ℕ) → ExpandsInverse key schedule.now → s.new ≡ unrows key n 6 s.old }
 {
-    let mut j = 6usize;
-    while 0 < j {
-        j -= 1;
+    for j in (0..6).rev() {
         unrow_in(tables, schedule, s, n * j, n);
     }
 }

@@ -1,69 +1,48 @@
 // The checks of RFC 5649, section 3, on unwrapped registers.
 ghost use Rattle.std.specs.Prelude.{◌≡◌, suc, ◌≤◌, take};
-ghost use Rattle.keywrap.specs.Answers.{Answers};
-ghost use Rattle.keywrap.specs.inner.Blank.{blank};
-ghost use Rattle.rfc5649.specs.inner.Unwrap.{Begins, count_in, zero_from};
+ghost use Rattle.keywrap.specs.inner.Blank.{AnswersBlank};
+ghost use Rattle.rfc5649.specs.inner.Unwrap.{Begins, all_zero, count_in};
 
+use crate::Opened;
 use crate::load::store;
 use crate::sizes::{MOST_OCTETS, REGISTERS};
-use crate::{Opened, WrapAnswer};
-
-// Answers "no", with nothing of what did not open.
-pub(crate) fn refuse() -> Opened
-    ensures { (result.answer ≡ WrapAnswer.No) × (result.octets ≡ blank) }
-{
-    Opened {
-        answer: WrapAnswer::No,
-        octets: [0u8; MOST_OCTETS],
-    }
-}
 
 // Reads the octet count from `a`. Answers 0 where `a` is not the alternative initial value of a count that takes `n` blocks.
+#[tactic(auto, unfolding(rfc5649::specs::inner::Unwrap::count_in))]
 fn count_in(a: u64, n: usize) -> usize
     ensures { result ≡ count_in a n }
 {
-    if a / 4294967296 == 0xa65959a6 {
-        let m = (a % 4294967296) as usize;
-        if (m + 7) / 8 == n {
-            return m;
-        }
-        return 0;
+    let m = (a % 4294967296) as usize;
+    if a / 4294967296 == 0xa65959a6 && (m + 7) / 8 == n {
+        m
+    } else {
+        0
     }
-    0
 }
 
-// Whether every octet of `s` from `at` on is 0.
-fn is_zero_from(s: &[u8], at: usize) -> bool
-    ensures { result ≡ zero_from at s.now }
+// Whether every octet of `s` is 0.
+fn is_zero(s: &[u8]) -> bool
+    ensures { result ≡ all_zero s.now }
 {
-    let mut i = at;
-    while i < s.len() {
-        if s[i] != 0 {
-            return false;
-        }
-        i += 1;
-    }
-    true
+    s.iter().all(|x| *x == 0)
 }
 
-// Checks the unwrapped registers `s` of `n` blocks. Answers the octets that were wrapped, or `No` where a check fails.
-pub(crate) fn check_registers(s: [u64; REGISTERS], n: usize) -> Opened
+// Checks the unwrapped registers `s` of `n` blocks. Answers the octets that were wrapped, or `None` where a check fails.
+pub(crate) fn check_registers(s: [u64; REGISTERS], n: usize) -> Option<Opened>
     requires { (1 ≤ n) × (n ≤ 32) }
-    ensures { Answers (Begins n (take (suc n) s)) blank result.answer result.octets }
+    ensures { AnswersBlank (Begins n (take (suc n) s)) result }
 {
     let m = count_in(s[0], n);
     if m == 0 {
-        return refuse();
+        return None;
     }
     let end = n + 1;
     let mut octets = [0u8; MOST_OCTETS];
     store(&s[1..end], &mut octets);
     let full = 8 * n;
-    if is_zero_from(&octets[..full], m) {
-        return Opened {
-            answer: WrapAnswer::Count(m),
-            octets,
-        };
+    let padded = &octets[..full];
+    if is_zero(&padded[m..]) {
+        return Some(Opened { octets, count: m });
     }
-    refuse()
+    None
 }

@@ -36,10 +36,8 @@ fn row_in(
     requires base_bound { (base ≤ 160) × (n ≤ 32) × (n < length s.old) }
     ensures { (key : List ℕ) → Expands key schedule.now → s.new ≡ row key base n s.old }
 {
-    let mut i = 0usize;
-    while i < n {
-        i += 1;
-        step_in(tables, schedule, s, (base + i) as u64, i);
+    for i in 0..n {
+        step_in(tables, schedule, s, (base + i + 1) as u64, i + 1);
     }
 }
 
@@ -49,10 +47,8 @@ fn rows_in(tables: &[u32; TABLE_WORDS], schedule: &[u32; SCHEDULE_WORDS], s: &mu
     requires n_bound { (n ≤ 32) × (n < length s.old) }
     ensures { (key : List ℕ) → Expands key schedule.now → s.new ≡ rows key n 6 s.old }
 {
-    let mut j = 0usize;
-    while j < 6 {
+    for j in 0..6 {
         row_in(tables, schedule, s, n * j, n);
-        j += 1;
     }
 }
 

@@ -3,31 +3,40 @@ use mathlib.Core.Path.{◌≡◌, refl, sym, ap, ap₂, ◌∙◌}
 use mathlib.Core.Bool.{Bool, true, false, ◌&&◌}
 use mathlib.Core.List.{List, [], ◌∷◌, ◌++◌}
 use Prim.Native.Nat.{ℕ, zero, suc, ◌+◌, ◌*◌, ◌-◌, ◌/◌, ◌%◌, ◌≤◌, ◌<◌}
-use native.Mathlib.Numerals.{add-one}
 use native.Mathlib.Omega.{arith}
-use borrow.Author.Tests.{eqb-true, eq-eqb, ne_eqb}
+use borrow.Author.Tests.{eqb-true, eq-eqb}
 use lib.Dec.{eqb}
-use lib.ListN.{length, get_or, drop, replicate, length-drop, drop_of_length-le}
-use lib.Seq.{drop-cons, drop_at}
+use lib.ListN.{length, get_or, take, drop, replicate, length-drop}
+use lib.Seq.{drop_at}
+use Rattle.std.specs.Prelude.{◌↔◌, IsTrue, EachIndex}
 use Rattle.rfc5649.specs.Wrap.{initial_value, blocks}
 use Rattle.rfc5649.specs.inner.Unwrap.{fits_blocks, count_by, count_in, all_zero, zero_from}
 
 -- ---- octets from an index on
 
-pub zero-next : (s : List ℕ) (i : ℕ) → i < length s → get_or s i 0 ≡ 0 → zero_from i s ≡ zero_from (i + 1) s
-unfolding zero_from
-zero-next s i h e =
-    ap all_zero (drop-cons s i 0 h) ∙ ap (λ (b : Bool). b && all_zero (drop (suc i) s)) (eq-eqb (get_or s i 0) 0 e)
-    ∙ ap (λ (k : ℕ). all_zero (drop k s)) (sym (add-one i))
+-- a test of each octet
+all-each : (s : List ℕ) → all_zero s ≡ true → EachIndex s (λ i. get_or s i 0 ≡ 0)
+all-each [] e i h = refl
+all-each (x ∷ s) e i h = by (eqb x 0) refl e (all-each s) i h
+  where
+    by : (b : Bool) → eqb x 0 ≡ b → (b && all_zero s) ≡ true → (all_zero s ≡ true → EachIndex s (λ i. get_or s i 0 ≡ 0))
+        → EachIndex (x ∷ s) (λ i. get_or (x ∷ s) i 0 ≡ 0)
+    by true q f r zero h = eqb-true x 0 q
+    by true q f r (suc i) h = r f i (omega arith)
+    by false q f r i h = let z : ◌≡◌ {A = ℕ} 0 1 = cc in absurd (omega arith)
 
-pub zero-not : (s : List ℕ) (i : ℕ) → i < length s → (get_or s i 0 ≡ 0 → ⊥) → zero_from i s ≡ false
-unfolding zero_from
-zero-not s i h e =
-    ap all_zero (drop-cons s i 0 h) ∙ ap (λ (b : Bool). b && all_zero (drop (suc i) s)) (ne_eqb (get_or s i 0) 0 e)
+each-all : (s : List ℕ) → EachIndex s (λ i. get_or s i 0 ≡ 0) → all_zero s ≡ true
+each-all [] f = refl
+each-all (x ∷ s) f =
+    ap (λ (b : Bool). b && all_zero s) (eq-eqb x 0 (f 0 (omega arith))) ∙ each-all s (λ i h. f (suc i) (omega arith))
 
-pub zero-end : (s : List ℕ) (i : ℕ) → length s ≤ i → zero_from i s ≡ true
-unfolding zero_from
-zero-end s i h = ap all_zero (drop_of_length-le s h)
+pub zero-test : (s : List ℕ) (t : Bool) → (IsTrue t ↔ EachIndex s (λ i. get_or s i 0 ≡ 0)) → t ≡ all_zero s
+zero-test s true h = sym (each-all s (h.0 refl))
+zero-test s false h = by (all_zero s) refl
+  where
+    by : (b : Bool) → all_zero s ≡ b → false ≡ all_zero s
+    by true e = h.1 (all-each s e) ∙ sym e
+    by false e = sym e
 
 all-zero : (s : List ℕ) → all_zero s ≡ true → s ≡ replicate (length s) 0
 all-zero [] e = refl

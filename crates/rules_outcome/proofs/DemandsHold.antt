@@ -8,8 +8,7 @@ use Rattle.fips197.specs.Key.{Key}
 use Rattle.rfc5649.specs.Wrap.{wrap_of}
 use Rattle.rfc5649.specs.Opens.{Opens}
 use Rattle.keywrap.specs.Answers.{written, Wrote, Opening, OpenAnswers}
-use Rattle.keywrap.specs.declared.WrapAnswer.{WrapAnswer}
-use Rattle.keywrap.specs.declared.WrapAnswer.TheVariants.{Count}
+use Rattle.std.specs.Prelude.{Option, Some}
 use Rattle.keywrap.proofs.Determined.{open-determined}
 use Rattle.state_keys.specs.Limits.{limits}
 use Rattle.wire_frames.proofs.FrameGrammar.{one-tree}
@@ -62,19 +61,19 @@ module _ (key wrapped room : List ℕ) (is : Key key) where
   opened-wraps x n after c e w =
       let q = written_one w.x x (w.count ∙ c) (sym w.room-is ∙ e) in ap (wrap_of key) (sym q) ∙ w.result.opens.wraps
 
-  module _ (a : WrapAnswer) (after : List ℕ) (answers : OpenAnswers key wrapped room a after) (x : List ℕ) (fits : Fits room x) where
+  module _ (a : Option ℕ) (after : List ℕ) (answers : OpenAnswers key wrapped room a after) (x : List ℕ) (fits : Fits room x) where
     to : OpenedTo room x a after → wrap_of key x ≡ wrapped
     to o =
         opened-wraps x (length x) after refl o.room-is
-        (subst (λ (b : WrapAnswer). OpenAnswers key wrapped room b after) o.answer answers)
+        (subst (λ (b : Option ℕ). OpenAnswers key wrapped room b after) o.answer answers)
 
     from : wrap_of key x ≡ wrapped → OpenedTo room x a after
     from w =
         let opens : Opens key wrapped x = record { least = fits.least; most = fits.most; octets = fits.octets; wraps = w } in
         let result : Opening key wrapped room x = record { key-size = is.size; opens = opens; holds = fits.holds } in
-        let wrote : OpenAnswers key wrapped room (Count (length x)) (written x room) =
+        let wrote : OpenAnswers key wrapped room (Some (length x)) (written x room) =
         record { x = x; result = result; count = refl; room-is = refl } in
-        let same = open-determined key wrapped room is.small a (Count (length x)) after (written x room) answers wrote in
+        let same = open-determined key wrapped room is.small a (Some (length x)) after (written x room) answers wrote in
         record { answer = same.0; room-is = same.1 }
 
 opening-holds : Claims opening
@@ -82,7 +81,7 @@ opening-holds key wrapped room is a after answers =
     record {
       exactly = λ x fits. (to key wrapped room is a after answers x fits, from key wrapped room is a after answers x fits);
       answers-no = λ q.
-          let none = subst (λ (b : WrapAnswer). OpenAnswers key wrapped room b after) q answers in (
+          let none = subst (λ (b : Option ℕ). OpenAnswers key wrapped room b after) q answers in (
             λ x fits w.
                 none.none x
                 (record {

@@ -1,14 +1,12 @@
 -- THE CUSTOMER'S DEMANDS, a row for each sentence, with what it says of the definitions. The theorem `demands-hold`
 -- (proofs/DemandsHold.antt) proves them all. Demand 3 is one row: its sentences stand over the fields of its record. `Outcome` is what
 -- `Member::receive` promises and `OpenAnswers` what `open` promises, for all inputs, without `requires`. So each row speaks of the code.
-use Rattle.std.specs.Prelude.{ℕ, suc, ◌≤◌, ◌≡◌, true, ◌↔◌, List, length}
+use Rattle.std.specs.Prelude.{ℕ, suc, ◌≤◌, ◌≡◌, true, ◌↔◌, List, length, Option, None, Some}
 use Rattle.octets.specs.Octets.{Octets}
 use Rattle.fips197.specs.Key.{Key}
 use Rattle.rfc5649.specs.Wrap.{wrap_of}
 use Rattle.rfc5649.specs.Opens.{Opens}
 use Rattle.keywrap.specs.Answers.{written, OpenAnswers}
-use Rattle.keywrap.specs.declared.WrapAnswer.{WrapAnswer}
-use Rattle.keywrap.specs.declared.WrapAnswer.TheVariants.{No, Count}
 use Rattle.state_keys.specs.Limits.{limits}
 use Rattle.wire_attributes.specs.Tree.{WrapKey}
 use Rattle.wire_frames.specs.Frame.{Frame}
@@ -64,14 +62,14 @@ pub record Fits (room x : List ℕ) : Type 0 where
   pub holds : length x ≤ length room
 
 -- the answer `a` of `open` and the room `after` it say that it opened to `x`
-pub record OpenedTo (room x : List ℕ) (a : WrapAnswer) (after : List ℕ) : Type 0 where
-  pub answer : a ≡ Count (length x)
+pub record OpenedTo (room x : List ℕ) (a : Option ℕ) (after : List ℕ) : Type 0 where
+  pub answer : a ≡ Some (length x)
   pub room-is : after ≡ written x room
 
-pub record OpensExactly (key wrapped room : List ℕ) (a : WrapAnswer) (after : List ℕ) : Type 1 where
+pub record OpensExactly (key wrapped room : List ℕ) (a : Option ℕ) (after : List ℕ) : Type 1 where
   pub exactly : (x : List ℕ) → Fits room x → OpenedTo room x a after ↔ (wrap_of key x ≡ wrapped)
   -- and where it answers no, nothing that fits opens, and the room is as lent
-  pub answers-no : a ≡ No → ((x : List ℕ) → Fits room x → wrap_of key x ≡ wrapped → ⊥) × (after ≡ room)
+  pub answers-no : a ≡ None → ((x : List ℕ) → Fits room x → wrap_of key x ≡ wrapped → ⊥) × (after ≡ room)
 
 -- ---- demand 3: what chains lead to, said without chains
 module _ (roots : List Root) (entries : List WrapKey) (size : ℕ) where
@@ -110,7 +108,7 @@ Claims any-input = (s : State) (now : ℕ) (lent octets : List ℕ) → OneAnswe
 Claims refusals = (s : State) (now : ℕ) (lent octets : List ℕ) → OneOfTheNumbers s now lent octets
 Claims reading = (s : State) (now : ℕ) (lent octets : List ℕ) (next : State) → Outcome limits s now lent octets 0 next →
     OneReading s now lent octets next
-Claims opening = (key wrapped room : List ℕ) → Key key → (a : WrapAnswer) (after : List ℕ) → OpenAnswers key wrapped room a after →
+Claims opening = (key wrapped room : List ℕ) → Key key → (a : Option ℕ) (after : List ℕ) → OpenAnswers key wrapped room a after →
     OpensExactly key wrapped room a after
 Claims keys = (s : State) (now : ℕ) (lent octets : List ℕ) (f : Frame) → IsFrame s.profile octets f → (n : ℕ) (next : State) →
     Outcome limits s now lent octets n next → Demand3 limits s now lent f octets n next

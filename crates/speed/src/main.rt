@@ -4,7 +4,6 @@
 // what was written, so that no call can be left out. Prints nothing for other arguments.
 #![tactic(auto)]
 
-use keywrap::WrapAnswer;
 use octets::wide;
 use std::env::Env;
 use std::io;
@@ -21,20 +20,15 @@ fn added(sum: usize, octet: u8) -> usize {
 
 // Adds `octets` to the checksum `start`.
 fn checksum(start: usize, octets: &[u8]) -> usize {
-    let mut sum = start;
-    let mut i = 0;
-    while i < octets.len() {
-        sum = added(sum, octets[i]);
-        i += 1;
-    }
-    sum
+    octets.iter().fold(start, |sum, octet| added(sum, *octet))
 }
 
 // Adds what a call wrote to the checksum `start`: the room is exact, so that is all of it or nothing.
-fn written(start: usize, answer: WrapAnswer, room: &[u8]) -> usize {
-    match answer {
-        WrapAnswer::No => start,
-        WrapAnswer::Count(_) => checksum(start, room),
+fn written(start: usize, answer: Option<usize>, room: &[u8]) -> usize {
+    if answer.is_some() {
+        checksum(start, room)
+    } else {
+        start
     }
 }
 
@@ -54,11 +48,9 @@ fn plain(turn: usize) -> [u8; 36] {
 fn wraps(key: &[u8]) -> usize {
     let mut room = [0u8; 48];
     let mut sum = 0;
-    let mut turn = 0;
-    while turn < TURNS {
+    for turn in 0..TURNS {
         let answer = keywrap::wrap(key, &plain(turn), &mut room);
         sum = written(sum, answer, &room);
-        turn += 1;
     }
     sum
 }
@@ -69,11 +61,9 @@ fn openings(key: &[u8]) -> usize {
     keywrap::wrap(key, &plain(0), &mut wrapped);
     let mut room = [0u8; 36];
     let mut sum = 0;
-    let mut turn = 0;
-    while turn < TURNS {
+    for _ in 0..TURNS {
         let answer = keywrap::open(key, &wrapped, &mut room);
         sum = written(sum, answer, &room);
-        turn += 1;
     }
     sum
 }
@@ -84,11 +74,9 @@ fn frames(key: &[u8]) -> usize {
     let mut room = [7u8; 256];
     keywrap::wrap(key, &room, &mut wrapped);
     let mut sum = 0;
-    let mut turn = 0;
-    while turn < FRAMES {
+    for _ in 0..FRAMES {
         let answer = keywrap::open(key, &wrapped, &mut room);
         sum = written(sum, answer, &room);
-        turn += 1;
     }
     sum
 }
@@ -98,20 +86,16 @@ fn print(rt: &impl Print, sum: usize) -> io::Result<()> {
 }
 
 fn run(rt: &impl Print, mode: &[u8], key: &[u8]) -> io::Result<()> {
-    if check::same(mode, b"wrap") {
-        print(rt, wraps(key))?;
+    match mode {
+        b"wrap" => print(rt, wraps(key)),
+        b"open" => print(rt, openings(key)),
+        b"frame" => print(rt, frames(key)),
+        _ => Ok(()),
     }
-    if check::same(mode, b"open") {
-        print(rt, openings(key))?;
-    }
-    if check::same(mode, b"frame") {
-        print(rt, frames(key))?;
-    }
-    Ok(())
 }
 
 fn run_if(rt: &impl Print, asked: &[u8], size: &[u8], mode: &[u8], key: &[u8]) -> io::Result<()> {
-    if check::same(asked, size) {
+    if asked == size {
         return run(rt, mode, key);
     }
     Ok(())

@@ -10,8 +10,9 @@ use lib.ListN.{length, take, drop, replicate}
 use lib.Seq.{take_at, length-take-le}
 use Rattle.fips197.specs.Key.{Key, is_key}
 use Rattle.rfc5649.specs.Opens.{Opens}
+use Rattle.keywrap.specs.Answers.{OpenAnswers}
 use Rattle.keywrap.specs.inner.Blank.{blank, OpensBlank}
-use Rattle.keywrap.specs.declared.WrapAnswer.TheVariants.{No, Count}
+use Rattle.std.specs.Prelude.{None, Some}
 use Rattle.rfc5649.proofs.Determined.{opens_one}
 use Rattle.rules_chains.proofs.Members.{in-member}
 use Rattle.state_keys.specs.Algorithms.{is_wrapping_size}
@@ -34,13 +35,13 @@ module _ (v w octets : List ℕ) where
   abbrev t : Try
   t = record { key = v; wrapped = w }
 
-  pub opened-none : Key v → OpensBlank v w No octets → (x : List ℕ) → SomeOpens (t ∷ []) x → ⊥
+  pub opened-none : Key v → OpensBlank v w None → (x : List ℕ) → SomeOpens (t ∷ []) x → ⊥
   opened-none is h x s = landed_none v w octets 0 is h x (only t x s)
 
-  pub opened-wrong : (n need : ℕ) → OpensBlank v w (Count n) octets → (n ≡ need → ⊥) → TriesConflict (t ∷ []) need
+  pub opened-wrong : (n need : ℕ) → OpenAnswers v w blank (Some n) octets → (n ≡ need → ⊥) → TriesConflict (t ∷ []) need
   opened-wrong n need h f = wrong_size h.x (alone t h.x h.result.opens) (λ e. f (sym h.count ∙ e))
 
-  pub opened-right : (n need : ℕ) (out : List ℕ) → Key v → OpensBlank v w (Count n) octets → n ≡ need →
+  pub opened-right : (n need : ℕ) (out : List ℕ) → Key v → OpenAnswers v w blank (Some n) octets → n ≡ need →
       out ≡ padded 68 (take n octets) → TriesKey (t ∷ []) need out n
   opened-right n need out is h e q =
       let x = h.x in

@@ -9,7 +9,7 @@ ghost use Rattle.unwrap_copies.specs.inner.Tries.{Try, CopyTells};
 ghost use Rattle.unwrap_copies.specs.declared.answer.CopyFound.TheVariants as found;
 
 use aes::{INVERSE_TABLE_WORDS, InverseSchedule};
-use keywrap::{WrapAnswer, open_under};
+use keywrap::open_under;
 use octets::compare::same;
 use state_keys::limits::SA_KEYS;
 use state_keys::rooms::SA_OCTETS;
@@ -149,15 +149,13 @@ pub(crate) fn open_copy(
     ensures { (v : List ℕ) → ExpandsInverse v schedule.words →
         CopyTells (record { key = v; wrapped = wrapped.now } ∷ []) need result }
 {
-    let opened = open_under(tables, schedule, wrapped);
-    let octets = opened.octets;
-    let answer = opened.answer;
-    match answer {
-        WrapAnswer::No => nothing(),
-        WrapAnswer::Count(n) => {
+    match open_under(tables, schedule, wrapped) {
+        None => nothing(),
+        Some(opened) => {
+            let n = opened.count;
             if n == need {
                 let mut out = [0u8; SA_OCTETS];
-                octets::copying::copy(&octets[..n], &mut out);
+                octets::copying::copy(&opened.octets[..n], &mut out);
                 return CopyOpened {
                     found: CopyFound::Key,
                     octets: out,

@@ -11,8 +11,9 @@ use lib.Seq.{take_at, take-append_seam}
 use Rattle.octets.specs.Walk.{part}
 use Rattle.fips197.specs.Key.{Key}
 use Rattle.rfc5649.specs.Opens.{Opens}
+use Rattle.keywrap.specs.Answers.{OpenAnswers}
 use Rattle.keywrap.specs.inner.Blank.{blank, OpensBlank}
-use Rattle.keywrap.specs.declared.WrapAnswer.TheVariants.{No, Count}
+use Rattle.std.specs.Prelude.{None, Some}
 use Rattle.wire_attributes.specs.Tree.{WrapKey}
 use Rattle.lists.proofs.Cases.{bool_cases}
 use Rattle.state_keys.specs.Algorithms.{is_wrapping_size}
@@ -26,16 +27,16 @@ use Rattle.unwrap_search.specs.inner.Entries.{IsEntry}
 use Rattle.unwrap_search.specs.inner.Opened.{waiting, naming, EntryOpened, WrongSize, NotOpened, Landed, Tried, opened, stays}
 
 module _ (v w octets : List ℕ) (size : ℕ) where
-  pub landed_none : Key v → OpensBlank v w No octets → NotOpened v w
+  pub landed_none : Key v → OpensBlank v w None → NotOpened v w
   unfolding blank
   landed_none is h x o =
       let room : length x ≤ length blank = subst (λ (m : ℕ). length x ≤ m) (sym (length-replicate {A = ℕ} 256 0)) o.most in
       h.none x (record { key-size = is.size; opens = o; holds = room })
 
-  pub landed-wrong : (m : ℕ) → OpensBlank v w (Count m) octets → (m ≡ size → ⊥) → WrongSize v size w
+  pub landed-wrong : (m : ℕ) → OpenAnswers v w blank (Some m) octets → (m ≡ size → ⊥) → WrongSize v size w
   landed-wrong m h ne = record { x = h.x; opens = h.result.opens; misfit = λ e. ne (sym h.count ∙ e) }
 
-  pub landed-right : (m : ℕ) (made : MadeWrapping) → OpensBlank v w (Count m) octets → m ≡ size → is_wrapping_size size ≡ true →
+  pub landed-right : (m : ℕ) (made : MadeWrapping) → OpenAnswers v w blank (Some m) octets → m ≡ size → is_wrapping_size size ≡ true →
       made ≡ wrapping_key (take m octets) → EntryOpened v size w made.key
   unfolding wrapping_key
   landed-right m made h e fit q =

@@ -8,7 +8,7 @@ ghost use Rattle.unwrap_search.specs.inner.Entries.{IsEntry};
 ghost use Rattle.unwrap_search.specs.inner.Opened.{Landed, Tried, no_cell, waiting, pending, naming};
 
 use aes::{INVERSE_TABLE_WORDS, InverseSchedule};
-use keywrap::{WrapAnswer, open_under};
+use keywrap::open_under;
 use state_keys::kinds::WrappingKey;
 use state_keys::rooms::WRAPPING_KEY;
 
@@ -78,21 +78,19 @@ pub(crate) fn open_entry(
     requires size_value { is_wrapping_size size ≡ true }
     ensures { (v : List ℕ) → ExpandsInverse v schedule.words → Landed v size wrapped.now result }
 {
-    let opened = open_under(tables, schedule, wrapped);
-    let octets = opened.octets;
-    let answer = opened.answer;
     let none = WrappingKey {
         octets: [0u8; WRAPPING_KEY],
         count: 0,
     };
-    match answer {
-        WrapAnswer::No => Cell {
+    match open_under(tables, schedule, wrapped) {
+        None => Cell {
             status: Status::Failed,
             key: none,
         },
-        WrapAnswer::Count(n) => {
+        Some(opened) => {
+            let n = opened.count;
             if n == size {
-                let made = WrappingKey::new(&octets[..n]);
+                let made = WrappingKey::new(&opened.octets[..n]);
                 let key = made.key;
                 return Cell {
                     status: Status::Pending,

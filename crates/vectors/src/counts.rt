@@ -1,15 +1,14 @@
 // Wraps and opens by RFC 5649: its own examples, and every kind of octet count.
 use crate::inputs::{LENT, first, key, plain, written};
 use crate::text::{print, print_case, print_last};
-use keywrap::WrapAnswer;
 use std::io;
 
 const COUNTS: [usize; 14] = [1, 7, 8, 9, 15, 16, 17, 20, 24, 36, 44, 68, 255, 256];
 
-fn print_written(rt: &impl Print, answer: WrapAnswer, room: &[u8]) -> io::Result<()> {
+fn print_written(rt: &impl Print, answer: Option<usize>, room: &[u8]) -> io::Result<()> {
     match answer {
-        WrapAnswer::No => print(rt, b"no\n"),
-        WrapAnswer::Count(n) => print_last(rt, first(room, n)),
+        None => print(rt, b"no\n"),
+        Some(n) => print_last(rt, first(room, n)),
     }
 }
 
@@ -58,16 +57,10 @@ fn both_ways(rt: &impl Print, size: usize, count: usize) -> io::Result<()> {
     print_opened(rt, first(&key_octets, size), first(&octets, count))
 }
 
-fn both_ways_each(rt: &impl Print, size: usize, counts: &[usize]) -> io::Result<()> {
-    let mut i = 0;
-    while i < counts.len() {
-        both_ways(rt, size, counts[i])?;
-        i += 1;
-    }
-    Ok(())
-}
-
 // Wraps and opens each of the counts under a key of `size` octets.
 pub(crate) fn counts(rt: &impl Print, size: usize) -> io::Result<()> {
-    both_ways_each(rt, size, &COUNTS)
+    for count in &COUNTS {
+        both_ways(rt, size, *count)?;
+    }
+    Ok(())
 }

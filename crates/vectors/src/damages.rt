@@ -16,10 +16,10 @@ fn altered(rt: &impl Print, size: usize) -> io::Result<()> {
     let key_octets = key(size);
     let wrapped = wrapped_20(size);
     let mut flipped = wrapped;
-    flipped[9] = flipped[9] ^ 1;
+    flipped[9] ^= 1;
     damage(rt, size, b" flipped ", first(&key_octets, size), &flipped)?;
     let mut other = key_octets;
-    other[0] = other[0] ^ 1;
+    other[0] ^= 1;
     damage(rt, size, b" key ", first(&other, size), &wrapped)?;
     damage(
         rt,

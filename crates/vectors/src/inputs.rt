@@ -1,8 +1,6 @@
 // Makes keys and octets by a rule, and takes parts of them.
 ghost use Rattle.std.specs.Prelude.{◌≡◌, length};
 
-use keywrap::WrapAnswer;
-
 // The octet that a room is full of when it is lent.
 pub(crate) const LENT: u8 = 0xee;
 
@@ -11,12 +9,10 @@ pub(crate) fn sequence(start: usize, step: u8) -> [u8; 272]
     ensures { 272 ≡ length result }
 {
     let mut octets = [0u8; 272];
-    let mut octet = (start % 256) as u8;
-    let mut i = 0;
-    while i < 272 {
-        octets[i] = octet;
-        octet = std::num::wrapping_add_u8(octet, step);
-        i += 1;
+    let mut next = (start % 256) as u8;
+    for octet in &mut octets {
+        *octet = next;
+        next = next.wrapping_add(step);
     }
     octets
 }
@@ -37,19 +33,12 @@ pub(crate) fn plain(count: usize) -> [u8; 272]
 
 // Answers the first `n` octets, or all where there are fewer.
 pub(crate) fn first(octets: &[u8], n: usize) -> &[u8] {
-    if n <= octets.len() {
-        &octets[0..n]
-    } else {
-        octets
-    }
+    octets.get(..n).unwrap_or(octets)
 }
 
 // Answers what a call with this `answer` wrote to the start of `room`.
-pub(crate) fn written(answer: WrapAnswer, room: &[u8]) -> &[u8] {
-    match answer {
-        WrapAnswer::No => first(room, 0),
-        WrapAnswer::Count(n) => first(room, n),
-    }
+pub(crate) fn written(answer: Option<usize>, room: &[u8]) -> &[u8] {
+    first(room, answer.unwrap_or(0))
 }
 
 // Wraps the first 20 octets of `plain(20)` under a key of `size` octets.

@@ -34,7 +34,7 @@ fn published(rt: &impl Print) -> io::Result<()> {
 fn main(rt: HostRuntime) -> io::Result<()> {
     let mut mode = [0u8; 8];
     let m = rt.arg(1, &mut mode).unwrap_or(0);
-    if check::same(&mode[..m], b"random") {
+    if &mode[..m] == b"random".as_slice() {
         return random::random(&rt);
     }
     published(&rt)

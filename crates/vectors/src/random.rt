@@ -28,11 +28,9 @@ struct Drawn {
 fn draw(x: u64) -> Drawn {
     let mut octets = [0u8; 48];
     let mut state = x;
-    let mut i = 0;
-    while i < 48 {
+    for octet in &mut octets {
         state = next(state);
-        octets[i] = (state % 256) as u8;
-        i += 1;
+        *octet = (state % 256) as u8;
     }
     Drawn { octets, state }
 }
@@ -57,27 +55,24 @@ fn print_blocks(rt: &impl Print, key: &[u8], block: [u8; 16]) -> io::Result<()>
 
 // Prints the blocks of one turn. The key is the first 16, 24 or 32 octets by `turn`, the block the last 16.
 fn print_sized(rt: &impl Print, turn: usize, octets: [u8; 48]) -> io::Result<()> {
-    let kind = turn % 3;
     let block = block_of(be64_at(&octets, 32), be64_at(&octets, 40));
+    let kind = turn % 3;
     if kind == 0 {
-        return print_blocks(rt, &octets[0..16], block);
+        print_blocks(rt, &octets[0..16], block)
+    } else if kind == 1 {
+        print_blocks(rt, &octets[0..24], block)
+    } else {
+        print_blocks(rt, &octets[0..32], block)
     }
-    if kind == 1 {
-        return print_blocks(rt, &octets[0..24], block);
-    }
-    print_blocks(rt, &octets[0..32], block)
 }
 
 // Prints the blocks of all turns.
 pub(crate) fn random(rt: &impl Print) -> io::Result<()> {
     let mut x = SEED;
-    let mut turn = 0;
-    while turn < COUNT {
-        let d = draw(x);
-        let octets = d.octets;
-        print_sized(rt, turn, octets)?;
-        x = d.state;
-        turn += 1;
+    for turn in 0..COUNT {
+        let drawn = draw(x);
+        print_sized(rt, turn, drawn.octets)?;
+        x = drawn.state;
     }
     Ok(())
 }

@@ -1,14 +1,12 @@
 // Makes calls that must answer "no" and leave a large room as lent.
 use crate::inputs::LENT;
 use crate::text::{print, print_answer};
-use keywrap::WrapAnswer;
 use std::io;
 
 // Prints `answer`, and beside it "room changed" where `room` is not as it was lent.
-fn print_refusal(rt: &impl Print, answer: WrapAnswer, room: &[u8]) -> io::Result<()> {
-    let lent = [LENT; 272];
+fn print_refusal(rt: &impl Print, answer: Option<usize>, room: &[u8]) -> io::Result<()> {
     print_answer(rt, answer)?;
-    if check::same(room, &lent) {
+    if room.iter().all(|octet| *octet == LENT) {
         return print(rt, b"\n");
     }
     print(rt, b", room changed\n")

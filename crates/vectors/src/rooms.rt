@@ -1,14 +1,13 @@
 // Wraps and opens 20 octets into rooms that are too small by one, exact, and larger than needed. Prints the whole room after each call.
 use crate::inputs::{LENT, first, key, plain, wrapped_20};
 use crate::text::{print, print_answer, print_case, print_last};
-use keywrap::WrapAnswer;
 use std::io;
 
 fn print_line(
     rt: &impl Print,
     size: usize,
     kind: &[u8],
-    answer: WrapAnswer,
+    answer: Option<usize>,
     room: &[u8],
 ) -> io::Result<()> {
     print_case(rt, b"room ", size, kind)?;

@@ -21,10 +21,8 @@ fn opens(
     plain: &[u8],
 ) -> io::Result<()> {
     let mut room = [LENT; 80];
-    if gcm::open(key, nonce, a, octets, &mut room) {
-        if check::same(first(&room, plain.len()), plain) {
-            return Ok(());
-        }
+    if gcm::open(key, nonce, a, octets, &mut room) && first(&room, plain.len()) == plain {
+        return Ok(());
     }
     print_failed(rt, key, name, b" does not open\n")
 }
@@ -42,7 +40,7 @@ fn refuses(
     if gcm::open(key, nonce, a, octets, &mut room) {
         return print_failed(rt, key, name, b" opens\n");
     }
-    if check::same(&room, &lent) {
+    if room == lent {
         return Ok(());
     }
     print_failed(rt, key, name, b" changes the room\n")
@@ -57,16 +55,16 @@ fn damages(
     octets: [u8; 76],
 ) -> io::Result<()> {
     let mut other_nonce = nonce;
-    other_nonce[0] = other_nonce[0] ^ 1;
+    other_nonce[0] ^= 1;
     refuses(rt, b"nonce", key, &other_nonce, &a, &octets)?;
     let mut other_data = a;
-    other_data[19] = other_data[19] ^ 128;
+    other_data[19] ^= 128;
     refuses(rt, b"data", key, &nonce, &other_data, &octets)?;
     let mut other_text = octets;
-    other_text[59] = other_text[59] ^ 1;
+    other_text[59] ^= 1;
     refuses(rt, b"text", key, &nonce, &a, &other_text)?;
     let mut other_tag = octets;
-    other_tag[75] = other_tag[75] ^ 1;
+    other_tag[75] ^= 1;
     refuses(rt, b"tag", key, &nonce, &a, &other_tag)
 }
 

@@ -1,5 +1,4 @@
 // Prints what the lines are made of.
-use keywrap::WrapAnswer;
 use std::io;
 
 // Prints `text` as it stands.
@@ -21,10 +20,8 @@ pub(crate) fn print_case(rt: &impl Print, before: &[u8], n: usize, after: &[u8])
 
 // Prints `octets` in hexadecimal.
 pub(crate) fn print_octets(rt: &impl Print, octets: &[u8]) -> io::Result<()> {
-    let mut i = 0;
-    while i < octets.len() {
-        print!(rt; "{:02x}", octets[i])?;
-        i += 1;
+    for octet in octets {
+        print!(rt; "{:02x}", *octet)?;
     }
     Ok(())
 }
@@ -36,9 +33,9 @@ pub(crate) fn print_last(rt: &impl Print, octets: &[u8]) -> io::Result<()> {
 }
 
 // Prints the count that `answer` carries, or `no`.
-pub(crate) fn print_answer(rt: &impl Print, answer: WrapAnswer) -> io::Result<()> {
+pub(crate) fn print_answer(rt: &impl Print, answer: Option<usize>) -> io::Result<()> {
     match answer {
-        WrapAnswer::No => print(rt, b"no"),
-        WrapAnswer::Count(n) => print_number(rt, n),
+        None => print(rt, b"no"),
+        Some(n) => print_number(rt, n),
     }
 }

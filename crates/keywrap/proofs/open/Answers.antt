@@ -1,11 +1,9 @@
-use mathlib.Core.Path.{refl, subst}
-use Rattle.keywrap.proofs.Answering.{is-so, is-not-so}
-use Rattle.keywrap.proofs.Opening.{put-none, put-most, put_some}
-use mathlib.Core.Path.{sym}
-use lib.Seq.{length-take-le}
-use Rattle.keywrap.specs.declared.WrapAnswer.{WrapAnswer}
-use Rattle.keywrap.specs.Answers.{Opening, OpenAnswers, Wrote}
-use Rattle.keywrap.specs.inner.Blank.{blank}
+use mathlib.Core.Path.{subst, sym}
+use Prim.Native.Nat.{ℕ}
+use Rattle.std.specs.Prelude.{Option}
+use Rattle.keywrap.specs.Answers.{OpenAnswers}
+use Rattle.keywrap.proofs.Answering.{is-so}
+use Rattle.keywrap.proofs.Opening.{put-none, put_some}
 use Rattle.keywrap.proofs.open.Goals as goal
 
 -- `keywrap::open` meets its contract.
@@ -14,49 +12,20 @@ pub expand_inverse-requires : goal.expand_inverse-requires
 expand_inverse-requires c =
     record {
       tables_value = c.inverse_tables-tables.ensures;
-      t = is-so c.is_key.ensures c.if-is_key.true;
+      t = is-so c.is_key.ensures c.if-not-is_key.false;
     }
 
-pub returns-in-No : goal.returns-in-No
-returns-in-No c =
+pub returns-in_err-opened : goal.returns-in_err-opened
+returns-in_err-opened c =
     let a = c.args in
     let e = c.expand_inverse.ensures in
-    put-none a.key.now a.wrapped.now a.room.now e.key-is
-    (subst (λ (b : WrapAnswer). OpenAnswers a.key.now a.wrapped.now blank b c.open_under-opened.result.octets)
-    c.in-No.is
-    (c.open_under-opened.ensures a.key.now e))
-
-pub slice_bounds-octets-end : goal.slice_bounds-octets-end
-slice_bounds-octets-end c =
-    let a = c.args in
-    let e = c.expand_inverse.ensures in
-    let n = c.in-Count.n in
-    let h : Wrote (Opening a.key.now a.wrapped.now blank) blank n c.open_under-opened.result.octets =
-    subst (λ (b : WrapAnswer). OpenAnswers a.key.now a.wrapped.now blank b c.open_under-opened.result.octets) c.in-Count.is
-    (c.open_under-opened.ensures a.key.now e) in
-    put-most a.key.now a.wrapped.now a.room.now e.key-is n c.open_under-opened.result.octets h
-
-pub slice_bounds-put-end : goal.slice_bounds-put-end
-slice_bounds-put-end c =
-    let a = c.args in
-    let e = c.expand_inverse.ensures in
-    let n = c.in-Count.n in
-    let h : Wrote (Opening a.key.now a.wrapped.now blank) blank n c.open_under-opened.result.octets =
-    subst (λ (b : WrapAnswer). OpenAnswers a.key.now a.wrapped.now blank b c.open_under-opened.result.octets) c.in-Count.is
-    (c.open_under-opened.ensures a.key.now e) in
-    sym (length-take-le n c.open_under-opened.result.octets
-    (put-most a.key.now a.wrapped.now a.room.now e.key-is n c.open_under-opened.result.octets h))
-
-pub returns-in-Count : goal.returns-in-Count
-returns-in-Count c =
-    let a = c.args in
-    let e = c.expand_inverse.ensures in
-    let n = c.in-Count.n in
-    let h : Wrote (Opening a.key.now a.wrapped.now blank) blank n c.open_under-opened.result.octets =
-    subst (λ (b : WrapAnswer). OpenAnswers a.key.now a.wrapped.now blank b c.open_under-opened.result.octets) c.in-Count.is
-    (c.open_under-opened.ensures a.key.now e) in
-    put_some a.key.now a.wrapped.now a.room.now e.key-is n c.open_under-opened.result.octets h
-    c.put.ensures.value c.put.ensures.room_after
+    subst (λ (r : Option ℕ). OpenAnswers a.key.now a.wrapped.now a.room.now r a.room.now) (sym c.from_residual.ensures)
+    (put-none a.key.now a.wrapped.now a.room.now e.key-is (c.in_err-opened.ensures a.key.now e))
 
 pub returns : goal.returns
-returns c = record { none = λ x h. is-not-so c.is_key.ensures c.if-is_key.false h.key-size; room-is = refl }
+returns c =
+    let a = c.args in
+    let e = c.expand_inverse.ensures in
+    let o = c.in_ok-opened.opened in
+    put_some a.key.now a.wrapped.now a.room.now e.key-is o.count o.octets (c.in_ok-opened.ensures a.key.now e)
+    c.put.ensures.value c.put.ensures.room_after

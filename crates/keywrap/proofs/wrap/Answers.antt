@@ -3,17 +3,11 @@ use native.Mathlib.Omega.{arith}
 use lib.ListN.{length}
 use Rattle.octets.specs.Octets.{Octets}
 use Rattle.rfc5649.specs.Wrap.{wrap_of}
-use Rattle.keywrap.proofs.Answering.{is-so, is-not-so}
+use Rattle.keywrap.proofs.Answering.{is-so}
 use Rattle.rfc5649.proofs.Wrapping.{length-wrap}
 use Rattle.keywrap.proofs.wrap.Goals as goal
 
 -- `keywrap::wrap` meets its contract.
-
-pub returns-then-m-eq0 : goal.returns-then-m-eq0
-returns-then-m-eq0 c = record { none = λ x w. omega (arith, w.least); room-is = refl }
-
-pub returns-then-m-gt-MOST_OCTETS : goal.returns-then-m-gt-MOST_OCTETS
-returns-then-m-gt-MOST_OCTETS c = record { none = λ x w. omega (arith, w.most); room-is = refl }
 
 pub returns-then-room-n : goal.returns-then-room-n
 returns-then-room-n c =
@@ -36,21 +30,21 @@ write_wrapped-requires c =
     let x = a.octets.now in
     let o : Octets x = λ i. (c.shared_slice_known-2-1.given i).fits in
     let k : Octets key = λ i. (c.shared_slice_known-1.given i).fits in
-    let t = is-so c.is_key.ensures c.if-is_key.true in
+    let t = is-so c.is_key.ensures c.if-not-is_key.false in
     record {
       t = t;
       in_bounds = (omega arith, omega arith);
       octets_in_bounds = omega (arith, length-wrap key x (record { size = t; small = k }) o (omega arith) (omega arith));
     }
 
-pub returns-then-is_key : goal.returns-then-is_key
-returns-then-is_key c =
+pub returns : goal.returns
+returns c =
     let a = c.args in
     let key = a.key.now in
     let x = a.octets.now in
     let o : Octets x = λ i. (c.shared_slice_known-2-1.given i).fits in
     let k : Octets key = λ i. (c.shared_slice_known-1.given i).fits in
-    let t = is-so c.is_key.ensures c.if-is_key.true in
+    let t = is-so c.is_key.ensures c.if-not-is_key.false in
     let l = length-wrap key x (record { size = t; small = k }) o (omega arith) (omega arith) in
     record {
       x = wrap_of key x;
@@ -58,6 +52,3 @@ returns-then-is_key c =
       count = l;
       room-is = c.write_wrapped.ensures;
     }
-
-pub returns : goal.returns
-returns c = record { none = λ x w. is-not-so c.is_key.ensures c.if-is_key.false w.key-size; room-is = refl }

@@ -1,5 +1,4 @@
 use mathlib.Core.Path.{◌≡◌}
-use Prim.Native.Nat.{◌-◌, ◌≤◌}
 use lib.ListN.{length, take}
 use Rattle.rfc5649.specs.Wrap.{register_octets}
 use Rattle.keywrap.specs.Answers.{written}
@@ -7,7 +6,4 @@ use Rattle.keywrap.proofs.load.store.Given as goal
 
 abbrev pub invariant-loop-i : goal.invariant-loop-i
 invariant-loop-i l =
-    (l.i ≤ length l.s) × (length l.room ≡ length l.initial.room) × (l.room ≡ written (register_octets (take l.i l.s)) l.initial.room)
-
-abbrev pub decreases-loop-i : goal.decreases-loop-i
-decreases-loop-i l = length l.s - l.i
+    (length l.room ≡ length l.initial.room) × (l.room ≡ written (register_octets (take l.i l.s)) l.initial.room)

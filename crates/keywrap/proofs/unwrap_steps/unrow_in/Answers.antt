@@ -1,5 +1,5 @@
 use borrow.Author.Rules.{rules}
-use mathlib.Core.Path.{◌≡◌, refl, ap, ◌∙◌}
+use mathlib.Core.Path.{◌≡◌, ap, ◌∙◌}
 use Prim.Native.Nat.{ℕ}
 use native.Mathlib.Omega.{arith}
 use Rattle.rfc5649.specs.inner.Unwrap.{unrow}
@@ -8,20 +8,15 @@ use Rattle.keywrap.proofs.unwrap_steps.unrow_in.Goals as goal
 
 -- `keywrap::unwrap_steps::unrow_in` meets its contract.
 
-pub loop-i-init : goal.loop-i-init
-loop-i-init c = (omega arith, refl, λ key e. refl)
-
 pub loop-i-preserved : goal.loop-i-preserved
 loop-i-preserved c =
     let a = c.args in (
-      omega arith,
       search rules,
-      λ key e.
-          unrow-turn key c.loop-i.s a.base c.loop-i.i (omega arith) (c.loop-i.invariant.2 key e) (c.unstep_in.ensures key e),
+      λ key e. unrow-turn key c.loop-i.s a.base c.loop-i.i (omega arith) (c.loop-i.invariant.1 key e) (c.unstep_in.ensures key e),
     )
 
 pub returns : goal.returns
 unfolding unrow
 returns c = λ key e.
     let a = c.args in
-    ap (λ (j : ℕ). unrow key a.base j c.loop-i.s) (let z : 0 ≡ c.loop-i.i = omega arith in z) ∙ c.loop-i.invariant.2 key e
+    ap (λ (j : ℕ). unrow key a.base j c.loop-i.s) (let z : 0 ≡ c.loop-i.i = omega arith in z) ∙ c.loop-i.invariant.1 key e

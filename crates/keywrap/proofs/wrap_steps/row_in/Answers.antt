@@ -1,8 +1,6 @@
-use borrow.Author.Rules.{rules}
-use mathlib.Core.Path.{◌≡◌, refl, ap, ◌∙◌}
-use Prim.Native.Nat.{ℕ}
-use native.Mathlib.Omega.{arith}
+use mathlib.Core.Path.{refl}
 use Rattle.rfc5649.specs.Steps.{row}
+use borrow.Author.Rules.{rules}
 use Rattle.keywrap.proofs.Turns.{row-turn}
 use Rattle.keywrap.proofs.wrap_steps.row_in.Goals as goal
 
@@ -10,18 +8,11 @@ use Rattle.keywrap.proofs.wrap_steps.row_in.Goals as goal
 
 pub loop-i-init : goal.loop-i-init
 unfolding row
-loop-i-init c = (omega arith, refl, λ key e. refl)
+loop-i-init c = (refl, λ key e. refl)
 
 pub loop-i-preserved : goal.loop-i-preserved
 loop-i-preserved c =
     let a = c.args in (
-      omega arith,
       search rules,
-      λ key e.
-          row-turn key a.s.now a.base c.loop-i.i (c.loop-i.invariant.2 key e) (c.step_in.ensures key e),
+      λ key e. row-turn key a.s.now a.base c.loop-i.i (c.loop-i.invariant.1 key e) (c.step_in.ensures key e),
     )
-
-pub returns : goal.returns
-returns c = λ key e.
-    let a = c.args in
-    c.loop-i.invariant.2 key e ∙ ap (λ (j : ℕ). row key a.base j a.s.now) (let z : c.loop-i.i ≡ a.n = omega arith in z)

@@ -1,6 +1,6 @@
 use mathlib.Core.Path.{◌≡◌}
 use mathlib.Core.List.{List}
-use Prim.Native.Nat.{ℕ, ◌-◌, ◌≤◌}
+use Prim.Native.Nat.{ℕ}
 use lib.ListN.{length}
 use Rattle.aes.specs.inner.Schedule.{Expands}
 use Rattle.rfc5649.specs.Steps.{row}
@@ -8,7 +8,4 @@ use Rattle.keywrap.proofs.wrap_steps.row_in.Given as goal
 
 abbrev pub invariant-loop-i : goal.invariant-loop-i
 invariant-loop-i l =
-    (l.i ≤ l.n) × (length l.s ≡ length l.initial.s) × ((key : List ℕ) → Expands key l.schedule → l.s ≡ row key l.base l.i l.initial.s)
-
-abbrev pub decreases-loop-i : goal.decreases-loop-i
-decreases-loop-i l = l.n - l.i
+    (length l.s ≡ length l.initial.s) × ((key : List ℕ) → Expands key l.schedule → l.s ≡ row key l.base l.i l.initial.s)

@@ -10,5 +10,5 @@ print_blocks-requires g c = is-16 _ (search rules)
 pub print_blocks-requires-then-kind-eq1 : goal.print_blocks-requires-then-kind-eq1
 print_blocks-requires-then-kind-eq1 g c = is-24 _ (search rules)
 
-pub print_blocks-requires-2 : goal.print_blocks-requires-2
-print_blocks-requires-2 g c = is_32 _ (search rules)
+pub print_blocks-requires-else-kind-eq1 : goal.print_blocks-requires-else-kind-eq1
+print_blocks-requires-else-kind-eq1 g c = is_32 _ (search rules)
