@@ -19,15 +19,6 @@ use Rattle.rules_refusals.specs.Fitness.{multicast, one_group_address}
 
 -- THE SIZE OF AN ADDRESS by the selector's type
 module _ (k : ℕ) where
-  pub of_four : k ≡ 7 → 4 ≡ address_size k
-  of_four e = rw (eq-eqb k 7 e)
-
-  pub of-sixteen : (k ≡ 7 → ⊥) → k ≡ 8 → 16 ≡ address_size k
-  of-sixteen n e = rw (ne_eqb k 7 n, eq-eqb k 8 e)
-
-  pub of_none : (k ≡ 7 → ⊥) → (k ≡ 8 → ⊥) → 0 ≡ address_size k
-  of_none n m = rw (ne_eqb k 7 n, ne_eqb k 8 m)
-
   sizes : 0 < selector_size k → (selector_size k ≡ 8 + address_size k + address_size k) × (4 ≤ address_size k)
   sizes h =
       bool_cases (eqb k 7) (λ e. rw e (refl, omega arith))

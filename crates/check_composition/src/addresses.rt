@@ -13,13 +13,11 @@ use ikev2_numbers::{
 fn address_size(kind: usize) -> usize
     ensures { (result ≡ address_size kind) × (result < 17) }
 {
-    if kind == TS_IPV4_ADDR_RANGE {
-        return IPV4_ADDRESS;
+    match kind {
+        TS_IPV4_ADDR_RANGE => IPV4_ADDRESS,
+        TS_IPV6_ADDR_RANGE => IPV6_ADDRESS,
+        _ => 0,
     }
-    if kind == TS_IPV6_ADDR_RANGE {
-        return IPV6_ADDRESS;
-    }
-    0
 }
 
 // Whether an address with first octet `first` is a multicast address: of IPv4 or IPv6, by the selector's type `kind`.
@@ -27,12 +25,10 @@ fn is_multicast(kind: usize, first: usize) -> bool
     ensures { result ≡ multicast kind (first ∷ []) }
 {
     if kind == TS_IPV4_ADDR_RANGE {
-        if first < IPV4_GROUP_FIRST {
-            return false;
-        }
-        return first <= IPV4_GROUP_LAST;
+        IPV4_GROUP_FIRST <= first && first <= IPV4_GROUP_LAST
+    } else {
+        first == IPV6_GROUP
     }
-    first == IPV6_GROUP
 }
 
 // Whether selector `o` is one multicast address and one port: its starts equal its ends.
@@ -42,11 +38,7 @@ pub fn is_group_address(o: &[u8]) -> bool
 {
     let kind = octets::wide(o[0]);
     let e = ADDRESSES_AT + address_size(kind);
-    if octets::compare::same(&o[ADDRESSES_AT..e], &o[e..]) {
-        if is_multicast(kind, octets::wide(o[ADDRESSES_AT])) {
-            return octets::numbers::be16_at(o, START_PORT_AT)
-                == octets::numbers::be16_at(o, END_PORT_AT);
-        }
-    }
-    false
+    octets::compare::same(&o[ADDRESSES_AT..e], &o[e..])
+        && is_multicast(kind, octets::wide(o[ADDRESSES_AT]))
+        && octets::numbers::be16_at(o, START_PORT_AT) == octets::numbers::be16_at(o, END_PORT_AT)
 }

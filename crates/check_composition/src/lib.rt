@@ -18,13 +18,13 @@ ghost use Rattle.check_composition.specs.inner.Facts.{no_policies, of_sa, sa_wit
 ghost use Rattle.check_composition.specs.inner.Facts.{PolicyBodyHolds, FactsOfPolicy, PolicyFactsAtMost, Added};
 
 use ikev2_numbers::{AH, ESP, GIKE_UPDATE, NO_PROTOCOL};
-use numbers::{Numbers, greater_u16, greater_u32, if_so, numbers_of};
+use numbers::{Numbers, numbers_of};
 use state_sa::entry::MOST_SECONDS;
 use wire_attributes::tables::{Meaning, Place};
 use wire_readers::one_if;
 
 // The facts of the policies of a GSA payload.
-#[derive(Clone, Copy)]
+#[derive(Clone, Copy, Default)]
 pub struct PolicyFacts {
     // the numbers of Group SA policies, of those of ESP, of those of a Rekey SA, and of group-wide policies
     pub sas: usize,
@@ -55,22 +55,7 @@ pub struct PolicyFacts {
 fn no_policies() -> PolicyFacts
     ensures { result ≡ no_policies }
 {
-    PolicyFacts {
-        sas: 0,
-        esps: 0,
-        rekeys: 0,
-        wides: 0,
-        ah: false,
-        two_lengths: false,
-        two_message_ids: false,
-        two_delays: false,
-        two_lifetimes: false,
-        elsewhere: false,
-        long: false,
-        unfit: false,
-        delay: 0,
-        initial: 0,
-    }
+    PolicyFacts::default()
 }
 
 // Answers the facts of a group-wide policy with the deactivation delays `n`.
@@ -79,20 +64,10 @@ fn of_wide(n: Numbers) -> PolicyFacts
     ensures { result ≡ wide_by n }
 {
     PolicyFacts {
-        sas: 0,
-        esps: 0,
-        rekeys: 0,
         wides: 1,
-        ah: false,
-        two_lengths: false,
-        two_message_ids: false,
         two_delays: 1 < n.count,
-        two_lifetimes: false,
-        elsewhere: false,
-        long: false,
-        unfit: false,
         delay: n.greatest as u16,
-        initial: 0,
+        ..no_policies()
     }
 }
 
@@ -113,21 +88,20 @@ fn of_sa(authentication: bool, protocol: usize, o: &[u8]) -> PolicyFacts
     let m = numbers_of(Meaning::KeyLifetime, place, &o[a..]);
     let group = addresses::is_group_address(&o[d..t]);
     let fit = u.is_fit(authentication, protocol);
+    let rekey = protocol == GIKE_UPDATE;
     PolicyFacts {
         sas: 1,
         esps: one_if(protocol == ESP),
-        rekeys: one_if(protocol == GIKE_UPDATE),
-        wides: 0,
+        rekeys: one_if(rekey),
         ah: protocol == AH,
         two_lengths: 0 < u.doubled,
         two_message_ids: 1 < n.count,
-        two_delays: false,
         two_lifetimes: 1 < m.count,
-        elsewhere: (protocol == GIKE_UPDATE) & !group,
+        elsewhere: rekey & !group,
         long: MOST_SECONDS < m.greatest,
         unfit: !fit,
-        delay: 0,
-        initial: if_so(protocol == GIKE_UPDATE, n.greatest),
+        initial: if rekey { n.greatest } else { 0 },
+        ..no_policies()
     }
 }
 
@@ -148,8 +122,8 @@ fn merge(a: PolicyFacts, b: PolicyFacts) -> PolicyFacts
     requires { Added a b }
     ensures { result ≡ merge_policy_facts a b }
 {
-    let delay = greater_u16(a.delay, b.delay);
-    let initial = greater_u32(a.initial, b.initial);
+    let delay = a.delay.max(b.delay);
+    let initial = a.initial.max(b.initial);
     let sas = a.sas + b.sas;
     let esps = a.esps + b.esps;
     let rekeys = a.rekeys + b.rekeys;

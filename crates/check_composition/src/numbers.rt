@@ -1,8 +1,8 @@
 // The numbers in the attributes of a policy (GSA_INITIAL_MESSAGE_ID, GSA_KEY_LIFETIME or the deactivation delay), in one walk.
-ghost use Rattle.std.specs.Prelude.{◌≡◌, true, cond, ◌<◌, ◌≤◌, length};
+ghost use Rattle.std.specs.Prelude.{◌≡◌, true, ◌<◌, ◌≤◌, length};
 ghost use Rattle.wire_attributes.specs.Layout.{attributes};
 ghost use Rattle.wire_readers.specs.inner.Values.{is_whole, values_in, value_size};
-ghost use Rattle.check_composition.specs.inner.Numbers.{greater, is_number, number_by, most, numbers_by, with_number};
+ghost use Rattle.check_composition.specs.inner.Numbers.{is_number, number_by, most, numbers_by, with_number};
 
 use octets::numbers::{be16_at, be32_at};
 use wire_attributes::attribute_value;
@@ -14,36 +14,6 @@ use wire_readers::values::next_attribute;
 pub struct Numbers {
     pub count: usize,
     pub greatest: u32,
-}
-
-// Answers the greater of `a` and `b`.
-pub fn greater_u16(a: u16, b: u16) -> u16
-    ensures { result ≡ greater a b }
-{
-    if a < b {
-        return b;
-    }
-    a
-}
-
-// Answers the greater of `a` and `b`.
-pub fn greater_u32(a: u32, b: u32) -> u32
-    ensures { result ≡ greater a b }
-{
-    if a < b {
-        return b;
-    }
-    a
-}
-
-// Answers `n` if `b` is true, else 0.
-pub fn if_so(b: bool, n: u32) -> u32
-    ensures { result ≡ cond b n 0 }
-{
-    if b {
-        return n;
-    }
-    0
 }
 
 // Reads the number in `v`, the value of an attribute with meaning `m`.
@@ -70,7 +40,7 @@ fn with_number(m: Meaning, n: Numbers, v: &[u8]) -> Numbers
     ensures { (result ≡ with_number m n v.now) × (result.greatest ≤ most m) }
 {
     let x = number_of(m, v);
-    let greatest = greater_u32(n.greatest, x);
+    let greatest = n.greatest.max(x);
     let count = n.count + 1;
     Numbers { count, greatest }
 }
