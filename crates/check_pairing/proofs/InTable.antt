@@ -1,13 +1,11 @@
 -- Names that an SA of the table has.
-use Prim.Native.Nat.{ℕ, ◌+◌, ◌-◌, ◌≤◌, ◌<◌}
+use Prim.Native.Nat.{ℕ}
 use mathlib.Core.Path.{◌≡◌, ap, sym, ◌∙◌}
 use mathlib.Core.List.{List}
-use mathlib.Core.Bool.{Bool, true, false, ◌||◌, ◌&&◌}
-use native.Mathlib.Omega.{arith}
-use lib.ListN.{length, take, drop, get_or}
+use mathlib.Core.Bool.{false, ◌&&◌}
+use lib.ListN.{take}
 use lib.Dec.{ltb}
 use Rattle.lists.specs.Lists.{any, count}
-use Rattle.lists.proofs.Parts.{part-cons, part_end}
 use Rattle.state_sa.specs.Entry.{named, due, sa_spi, sa_spi_size}
 use Rattle.state_sa.specs.declared.entry.Sa.{Sa}
 use Rattle.state_table.specs.Table.{stays, not_due}
@@ -16,35 +14,15 @@ use Rattle.check_pairing.specs.inner.Names.{Name, is_named, is_announced}
 use Rattle.check_pairing.proofs.ListLaws.{same-swap, eqb_swap, any-keep, any_swap}
 
 module _ (now : ℕ) (s : Sa) (l : List Name) where
-  pub announced-due : due now s ≡ true → false ≡ is_announced now l s
-  announced-due e = rw e
-
   such-names : (n : Name) → is_named s.protocol (sa_spi s) n ≡ named n.protocol n.spi s
   unfolding named
   such-names n = λ i. eqb_swap n.protocol s.protocol i && same-swap n.spi (sa_spi s) i
 
   module _ (m p n : ℕ) (e : due now s ≡ false) (f : p ≡ s.protocol) (g : n ≡ sa_spi_size s.protocol) where
-    pub announced-counted : m ≡ count (is_named p (take (n - 0) s.spi)) l → ltb 0 m ≡ is_announced now l s
+    pub announced-counted : m ≡ count (is_named p (take n s.spi)) l → ltb 0 m ≡ is_announced now l s
     announced-counted h =
-        let z : n - 0 ≡ sa_spi_size s.protocol = omega arith in
-        ap (ltb 0) (h ∙ (λ i. count (is_named (f i) (take (z i) s.spi)) l))
+        ap (ltb 0) (h ∙ (λ i. count (is_named (f i) (take (g i) s.spi)) l))
         ∙ sym (any-count (is_named s.protocol (sa_spi s)) l) ∙ (λ i. any (λ (x : Name). such-names x i) l) ∙ rw e
-
--- ---- the pass over the SAs of the table
-module _ {A : Type 0} (p : A → Bool) (l : List A) (n : ℕ) (h : n ≤ length l) (j : ℕ) where
-  any-first : (d : A) → j < n → any p (drop j (take n l)) ≡ (p (get_or l j d) || any p (drop (j + 1) (take n l)))
-  unfolding any
-  any-first d g = rw (part-cons l n h j d g)
-
-  pub any-yes : (d : A) (b : Bool) → j < n → b ≡ p (get_or l j d) → b ≡ true → any p (drop j (take n l)) ≡ true
-  any-yes d b g e f = any-first d g ∙ ap (λ (x : Bool). x || any p (drop (j + 1) (take n l))) (sym e ∙ f)
-
-  pub any-no : (d : A) (b : Bool) → j < n → b ≡ p (get_or l j d) → b ≡ false → any p (drop j (take n l)) ≡ any p (drop (j + 1) (take n l))
-  any-no d b g e f = any-first d g ∙ ap (λ (x : Bool). x || any p (drop (j + 1) (take n l))) (sym e ∙ f)
-
-  pub any-end : n ≤ j → any p (drop j (take n l)) ≡ false
-  unfolding any
-  any-end g = rw (part_end l n h j g)
 
 -- ---- the same from the names: one that an SA has which is not due
 pub in_table : (now : ℕ) (l : List Name) (m : List Sa) →

@@ -19,13 +19,10 @@ fn is_announced(s: Sa, gsa: &[u8], tick: u32) -> bool
     requires { (l : List Name) × Names gsa.now l }
     ensures { (l : List Name) → Names gsa.now l → result ≡ is_announced tick l s }
 {
-    if s.due(tick) {
-        return false;
-    }
     let p = s.protocol;
     let x = s.spi;
     let n = state_sa::entry::spi_size(p);
-    0 < names::count_names(octets::wide(p), &x[0..n], gsa)
+    !s.due(tick) && 0 < names::count_names(octets::wide(p), &x[..n], gsa)
 }
 
 // Whether some SA of table `t` is not due at `tick` and has the protocol and SPI of a policy of GSA body `gsa`.
@@ -34,13 +31,5 @@ pub fn any_in_table(gsa: &[u8], t: Table, tick: u32) -> bool
     ensures { (l : List Name) → Names gsa.now l → result ≡ any (is_announced tick l) (sas_of t) }
 {
     let n = t.count;
-    let mut i: usize = 0;
-    while i < n {
-        let s = t.sas[i];
-        if is_announced(s, gsa, tick) {
-            return true;
-        }
-        i += 1;
-    }
-    false
+    t.sas[..n].iter().any(|s| is_announced(*s, gsa, tick))
 }

@@ -13,10 +13,7 @@ pub fn is_named(protocol: usize, spi: &[u8], first: usize, x: &[u8]) -> bool
     if first == NO_PROTOCOL {
         return false;
     }
-    if first == protocol {
-        return octets::compare::same(x, spi);
-    }
-    false
+    first == protocol && octets::compare::same(x, spi)
 }
 
 // Counts the policies or key bags of body `s` with the name `protocol` and `spi`.
@@ -45,10 +42,7 @@ fn is_unpaired(first: usize, x: &[u8], t: &[u8]) -> bool
     requires { (m : List Name) × Names t.now m }
     ensures { (m : List Name) → Names t.now m → result ≡ any (is_unpaired m) (name_of first x.now) }
 {
-    if first == NO_PROTOCOL {
-        return false;
-    }
-    count_names(first, x, t) != 1
+    first != NO_PROTOCOL && count_names(first, x, t) != 1
 }
 
 // Whether some name of body `s` stands in body `t` never or more than once.
