@@ -1,15 +1,12 @@
 -- The tests of numbers 5 and 7 over the facts of a frame are their clauses.
-use Prim.Native.Nat.{ℕ, ◌+◌, ◌-◌, ◌<◌, ◌≤◌}
+use Prim.Native.Nat.{ℕ, ◌+◌}
 use mathlib.Core.Path.{◌≡◌, sym, ◌∙◌}
 use mathlib.Core.List.{List, [], ◌∷◌}
-use mathlib.Core.Bool.{true, not, ◌&&◌, or-false}
-use native.Mathlib.Omega.{arith}
-use borrow.Author.Tests.{lt-ltb, le-ltb}
+use mathlib.Core.Bool.{not, ◌&&◌, or-false}
 use lib.ListN.{length}
 use lib.Dec.{ltb}
 use Rattle.state_keys.specs.Limits.{limits}
 use Rattle.state_keys.specs.Algorithms.{is_wrapping_size}
-use Rattle.lists.proofs.Cases.{lt-cases}
 use Rattle.state.specs.declared.State.{State}
 use Rattle.wire_frames.specs.Frame.{Frame}
 use Rattle.wire_frames.specs.declared.exchanges.Exchange.{Exchange}
@@ -27,15 +24,6 @@ use Rattle.check_composition.specs.inner.Facts.{policy_facts_of as policyFacts}
 use Rattle.check_bagkeys.specs.declared.BagFacts.{BagFacts}
 use Rattle.check_bagkeys.specs.inner.Facts.{bag_facts_of as bagFacts}
 use Rattle.check_judging.specs.inner.Tests.{number5_of, number7_of}
-
--- so many and so many more
-pub over-already : (n m : ℕ) → limits.sas < n → true ≡ ltb limits.sas (n + m)
-over-already n m h = sym (lt-ltb limits.sas (n + m) (omega arith))
-
-pub over-with : (n m : ℕ) → n ≤ limits.sas → ltb (limits.sas - n) m ≡ ltb limits.sas (n + m)
-over-with n m h =
-    lt-cases (limits.sas - n) m (λ g. lt-ltb (limits.sas - n) m g ∙ sym (lt-ltb limits.sas (n + m) (omega arith)))
-    (λ g. le-ltb (limits.sas - n) m g ∙ sym (le-ltb limits.sas (n + m) (omega arith)))
 
 module _ (f : Frame) (row : Exchange) (e : row_of f ≡ row) (d : Deletes) (is : IsDeletes f d) (p : PolicyFacts) (k : BagFacts)
     (pq : p ≡ policyFacts (row_of f).authentication (policies_of f)) (kq : k ≡ bagFacts limits (bags_of f)) where

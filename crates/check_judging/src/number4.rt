@@ -6,7 +6,8 @@ ghost use Rattle.check_judging.specs.inner.Tests.{number4_by, number4_in};
 use crate::facts::Facts;
 use wire_frames::exchanges::Exchange;
 
-// Whether each clause of number 4 applies, in the order of documents 01 and 02.
+// Whether each clause of number 4 applies, in the order of documents 01 and 02. Kept as a type of its own, as those of numbers 5 to 7 are:
+// what is printed of a frame calls each clause by its name, which a list of tests for all numbers would not have.
 #[derive(Clone, Copy)]
 pub struct Clauses4 {
     pub critical: bool,

@@ -67,18 +67,11 @@ pub fn number_6(row: Exchange, x: Facts, gsa: &[u8], kd: &[u8], t: Table, tick: 
     ensures { (l m : List Name) → Names gsa.now l → Names kd.now m →
         result ≡ one (number6_by row x l m tick (sas_of t)) }
 {
-    let k = x.bags;
-    if any_unfit_key(row, k) {
-        return true;
-    }
-    // "policies and Group Key Bags not paired one to one by protocol and SPI; one protocol and SPI twice": where a name stands twice,
-    // policies and bags are not paired one to one either
-    if any_unpaired(gsa, kd) {
-        return true;
-    }
-    if any_unpaired(kd, gsa) {
-        return true;
-    }
-    // "or already in the table (SAs due at the tick not counted)"
-    check_pairing::any_in_table(gsa, t, tick)
+    any_unfit_key(row, x.bags)
+        // "policies and Group Key Bags not paired one to one by protocol and SPI; one protocol and SPI twice": where a name stands twice,
+        // policies and bags are not paired one to one either
+        || any_unpaired(gsa, kd)
+        || any_unpaired(kd, gsa)
+        // "or already in the table (SAs due at the tick not counted)"
+        || check_pairing::any_in_table(gsa, t, tick)
 }

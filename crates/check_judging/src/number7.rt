@@ -11,10 +11,7 @@ use state_keys::limits::{DELETED_SPIS, ESP_POLICIES, FRESH_KEYS, SAS, WRAP_KEYS}
 fn is_over(standing: usize, more: usize) -> bool
     ensures { result ≡ ltb limits.sas (standing + more) }
 {
-    if SAS < standing {
-        return true;
-    }
-    SAS - standing < more
+    SAS < standing || SAS - standing < more
 }
 
 // Whether each clause of number 7 applies: those on the frame, then the one on the table.
