@@ -16,7 +16,7 @@ use Rattle.check_suites.specs.inner.Suites.{suite_of, needs_of}
 use Rattle.check_suites.specs.inner.Adding.{plus, SuiteAtMost}
 use Rattle.check_suites.specs.declared.counts.SuiteCounts.{SuiteCounts}
 use Rattle.check_suites.specs.declared.counts.Needs.{Needs}
-use Rattle.check_suites.proofs.FoldLaws.{Folded, ended}
+use Rattle.check_suites.proofs.FoldLaws.{Folded}
 
 -- THE COUNTS
 module _ (q : Transform → Bool) where
@@ -120,11 +120,11 @@ at-most-plus n m k x y f g h = record {
 }
 
 module _ (s : List ℕ) (l : List Transform) (tail : List ℕ) where
-  pub suite-starts : Transforms s l tail → Folded suite_of plus s 0 true (suite_of []) l tail
+  pub suite-starts : Transforms s l tail → Folded suite_of plus s 0 (suite_of []) l tail
   suite-starts x = record { others = l; left = x; total = none-plus l }
 
-  pub suite-ends : (at : ℕ) (go : Bool) (x : SuiteCounts) → Folded suite_of plus s at go x l tail → go ≡ false → x ≡ suite_of l
-  suite-ends at go x k h = sym (ended suite_of plus s at go x l tail k h ∙ plus_none x)
+pub suite-ends : (l : List Transform) (x : SuiteCounts) → suite_of l ≡ plus x (suite_of []) → x ≡ suite_of l
+suite-ends l x e = sym (e ∙ plus_none x)
 
 -- THE OCTETS
 abbrev pub joined : Needs → Needs → Needs
@@ -160,14 +160,13 @@ pub needs-one : (t : Transform) (e w : ℕ) → e ≡ encryption_needs t → w �
 needs-one t e w p q = λ j. record { encryption = sum_one encryption_needs t e p j; wrapping = sum_one key_wrap_needs t w q j }
 
 module _ (s : List ℕ) (l : List Transform) (tail : List ℕ) where
-  pub needs-starts : Transforms s l tail → Folded needs_of joined s 0 true (record { encryption = 0; wrapping = 0 }) l tail
+  pub needs-starts : Transforms s l tail → Folded needs_of joined s 0 (record { encryption = 0; wrapping = 0 }) l tail
   needs-starts x = record {
     others = l;
     left = x;
     total = λ j. record { encryption = none-sum encryption_needs l j; wrapping = none-sum key_wrap_needs l j };
   }
 
-  pub needs-end : (at : ℕ) (go : Bool) (x : Needs) → Folded needs_of joined s at go x l tail → go ≡ false → x ≡ needs_of l
-  needs-end at go x k h =
-      sym (ended needs_of joined s at go x l tail k h
-      ∙ (λ j. record { encryption = sum-none encryption_needs x.encryption j; wrapping = sum-none key_wrap_needs x.wrapping j }))
+pub needs-end : (l : List Transform) (x : Needs) → needs_of l ≡ joined x (needs_of []) → x ≡ needs_of l
+needs-end l x e =
+    sym (e ∙ (λ j. record { encryption = sum-none encryption_needs x.encryption j; wrapping = sum-none key_wrap_needs x.wrapping j }))

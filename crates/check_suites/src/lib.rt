@@ -22,16 +22,16 @@ pub fn suite(t: &[u8]) -> SuiteCounts
 {
     let mut s = SuiteCounts::none();
     let mut at = 0;
-    let mut more = true;
-    while more {
+    loop {
         let p = wire_readers::body::transform_parts(&t[at..]);
         let a = at + TRANSFORM_HEAD;
         let e = at + p.end;
         s = s.plus(counts::one_transform(p.kind, p.id, &t[a..e]));
+        if !p.more {
+            return s;
+        }
         at = e;
-        more = p.more;
     }
-    s
 }
 
 // Sums the keying octets that the transforms at the start of `t` need.
@@ -42,19 +42,19 @@ fn transforms_need(t: &[u8]) -> Needs
     let mut encryption = 0;
     let mut wrapping = 0;
     let mut at = 0;
-    let mut more = true;
-    while more {
+    loop {
         let p = wire_readers::body::transform_parts(&t[at..]);
         let a = at + TRANSFORM_HEAD;
         let e = at + p.end;
-        encryption = encryption + rows::encryption_octets(p.kind, p.id, &t[a..e]);
-        wrapping = wrapping + rows::wrapping_octets(p.kind, p.id);
+        encryption += rows::encryption_octets(p.kind, p.id, &t[a..e]);
+        wrapping += rows::wrapping_octets(p.kind, p.id);
+        if !p.more {
+            return Needs {
+                encryption,
+                wrapping,
+            };
+        }
         at = e;
-        more = p.more;
-    }
-    Needs {
-        encryption,
-        wrapping,
     }
 }
 
