@@ -104,25 +104,13 @@ pub fn open_keys(
     ensures { (m : State) (lent : List ℕ) (f : Frame) →
         Openable row m tick lent gsa.now kd.now bag held zero reads f → KeysOpened m tick lent result f }
 {
-    let at = entries_at(row.registers, reads, gsa, kd, bag);
-    let stretch = at.bag;
-    let meaning = at.meaning;
-    let place = at.place;
+    let source = entries_at(row.registers, reads, gsa, kd, bag);
     let mut ids = [0u32; HELD_KEYS];
     let mut block = [0u8; BLOCK];
     lend_keys(held, &mut ids, &mut block);
     let m = named_count(row.names_held_keys, held.count);
     let e = PLACE * m;
-    let found = reach_any(
-        kd,
-        at.some,
-        stretch,
-        meaning,
-        place,
-        zero,
-        &ids[..m],
-        &block[..e],
-    );
+    let found = reach_any(kd, source, zero, &ids[..m], &block[..e]);
     let links = found.links;
     let reached = found.held;
     let carried = links.ids;

@@ -22,7 +22,8 @@ pub struct Links {
 impl Links {
     // Makes the links of no entry.
     pub fn none() -> Links
-        ensures { LinksFit result }
+        ensures fit { LinksFit result }
+        ensures empty { result.count ≡ 0 }
     {
         Links {
             ids: [0u32; WRAP_KEYS],

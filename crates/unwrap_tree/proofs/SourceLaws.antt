@@ -8,6 +8,7 @@ use mathlib.Core.List.{List, [], ◌∷◌, ◌++◌, append-nil, Memᴰ, flat_m
 use borrow.Author.Tests.{eq-eqb, ne_eqb, eqb-true, eqb-false, ltb-false, not-false}
 use lib.Dec.{eqb}
 use lib.ListN.{length, drop}
+use Rattle.std.specs.Prelude.{Option, Some, None}
 use Rattle.octets.specs.Walk.{part, many, chain, chain_up_to}
 use Rattle.octets.specs.Compare.{same}
 use Rattle.octets.proofs.Order.{same-eq, eq-same}
@@ -33,7 +34,7 @@ use Rattle.rules_outcome.proofs.RunsLists.{none_passes}
 use Rattle.check_pairing.proofs.Seeking.{StretchIs}
 use Rattle.unwrap_sas.proofs.PolicyAt.{sas_from, no-more-sas, PolicyAt}
 use Rattle.unwrap_tree.specs.inner.Entries.{HoldsEntries}
-use Rattle.unwrap_tree.specs.inner.Source.{rekeys_in, FirstRekey, FindsRekey, no_source, FreshSource, FreshStand, EntriesStand}
+use Rattle.unwrap_tree.specs.inner.Source.{rekeys_in, FirstRekey, FindsRekey, EntriesOf, FreshSource, FreshStand, EntriesStand}
 use Rattle.unwrap_tree.specs.declared.source.Source.{Source}
 
 -- ---- lists
@@ -99,10 +100,9 @@ module _ (g : List ℕ) where
   walk_start w = record { inside = omega arith; rest = w; left = refl }
 
   module _ (at : ℕ) (w : PassedBy at) where
-    pub walk_end : length g ≤ at → FindsRekey g (record { start = 0; end = 0 })
+    pub walk_end : length g ≤ at → FindsRekey g None
     unfolding keep
-    walk_end h =
-        record { none = λ e. sym w.left ∙ ap (keep is_rekey) (no-more-sas g at h); some = λ z. absurd (z refl) }
+    walk_end h = sym w.left ∙ ap (keep is_rekey) (no-more-sas g at h)
 
     module _ (r : Parts) (p : PolicyAt g at r) where
       skipped : (r.first ≡ rekey_protocol → ⊥) → keep is_rekey (sas_from g at) ≡ keep is_rekey (sas_from g (at + r.end))
@@ -116,23 +116,19 @@ module _ (g : List ℕ) where
       pub walk-next : (r.first ≡ rekey_protocol → ⊥) → PassedBy (at + r.end)
       walk-next z = record { inside = p.inside; rest = p.others; left = sym (skipped z) ∙ w.left }
 
-      pub walk-found : r.first ≡ rekey_protocol → FindsRekey g (record { start = at + 4; end = at + r.body })
+      pub walk-found : r.first ≡ rekey_protocol → FindsRekey g (Some (record { start = at + 4; end = at + r.body }))
       walk-found e =
           let s = p.sa-at (λ q. let z : ◌≡◌ {A = ℕ} 0 6 = sym q ∙ e in omega arith) in
           let its : is_rekey s.sa ≡ true =
           ap (λ (n : ℕ). eqb n rekey_protocol) (s.protocol-is ∙ e) ∙ eq-eqb rekey_protocol rekey_protocol refl in
           record {
-            none = λ q. absurd (omega (arith, q, p.some));
-            some = λ q.
-                record {
-                  sa = s.sa;
-                  others = keep is_rekey (sas_from g (at + r.end));
-                  first = sym w.left ∙ ap (keep is_rekey) s.first ∙ kept-first is_rekey s.sa (sas_from g (at + r.end)) its;
-                  protocol-is = s.protocol-is ∙ e;
-                  spi-is = s.spi-is;
-                  order = omega (arith, p.some);
-                  inside = omega (arith, p.order, p.inside);
-                };
+            sa = s.sa;
+            others = keep is_rekey (sas_from g (at + r.end));
+            first = sym w.left ∙ ap (keep is_rekey) s.first ∙ kept-first is_rekey s.sa (sas_from g (at + r.end)) its;
+            protocol-is = s.protocol-is ∙ e;
+            spi-is = s.spi-is;
+            order = omega (arith, p.some);
+            inside = omega (arith, p.order, p.inside);
           }
 
 -- ---- what the frame says
@@ -212,54 +208,26 @@ module _ (f : Frame) (g k : List ℕ) (y : FreshSource f g k) where
         ∙ (λ i. fresh_in (keep (bag_named rekey_protocol (part g r.start r.end)) (flat_map group_bag_of (y.bags i))))
 
     pub fresh-stand : (bag : Stretch) → StretchIs true k rekey_protocol (part g r.start r.end) bag →
-        FreshStand k f (record { some = true; bag = bag; meaning = meaning.FreshKey; place = FreshRekeyBag })
+        FreshStand k f (Some (record { bag = bag; meaning = meaning.FreshKey; place = FreshRekeyBag }))
     fresh-stand bag is = record {
-      holds = record {
-        order = is.order;
-        inside = is.inside;
-        held = is.held;
-        keys = fresh-are ∙ is.entries;
-        wrapped = λ n. refl;
-      };
-      none = λ e. absurd (false≢true (sym e));
+      order = is.order;
+      inside = is.inside;
+      held = is.held;
+      keys = fresh-are ∙ is.entries;
+      wrapped = λ n. refl;
     }
-
--- ---- no entries
-holds-none : (k : List ℕ) (l : List WrapKey) → l ≡ [] → HoldsEntries meaning.WrapKey MemberBag k (record { start = 0; end = 0 }) l
-unfolding many chain chain_up_to values_of
-holds-none k l e = record {
-  order = omega arith;
-  inside = omega arith;
-  held = refl;
-  keys = e;
-  wrapped = λ n. refl;
-}
-
-pub fresh-stand-none : (k : List ℕ) (f : Frame) (r : Source) → r ≡ no_source → fresh_keys_of f ≡ [] → FreshStand k f r
-fresh-stand-none k f r e z =
-    subst (FreshStand k f) (sym e) (record { holds = holds-none k (fresh_keys_of f) z; none = λ q. z })
-
-pub stand-none : (k : List ℕ) (f : Frame) (r : Source) → r ≡ no_source → wrap_keys_of f ≡ [] → fresh_keys_of f ≡ [] → EntriesStand k f r
-stand-none k f r e w z =
-    let n : wrap_keys_of f ++ fresh_keys_of f ≡ [] = λ i. w i ++ z i in
-    subst (EntriesStand k f) (sym e) (record { holds = holds-none k (wrap_keys_of f ++ fresh_keys_of f) n; none = λ q. n })
 
 -- ---- entries of one kind
-pub stand-fresh : (k : List ℕ) (f : Frame) (r : Source) → wrap_keys_of f ≡ [] → FreshStand k f r → EntriesStand k f r
+pub stand-none : (k : List ℕ) (f : Frame) → wrap_keys_of f ≡ [] → fresh_keys_of f ≡ [] → EntriesStand k f None
+stand-none k f w z = λ i. w i ++ z i
+
+pub stand-fresh : (k : List ℕ) (f : Frame) (r : Option Source) → wrap_keys_of f ≡ [] → FreshStand k f r → EntriesStand k f r
 stand-fresh k f r w s =
-    let e : fresh_keys_of f ≡ wrap_keys_of f ++ fresh_keys_of f = ap (λ (l : List WrapKey). l ++ fresh_keys_of f) (sym w) in
-    record {
-      holds = subst (HoldsEntries r.meaning r.place k r.bag) e s.holds;
-      none = λ q. sym e ∙ s.none q;
-    }
+    subst (EntriesOf k r) (ap (λ (l : List WrapKey). l ++ fresh_keys_of f) (sym w)) s
 
 pub stand-member : (k : List ℕ) (f : Frame) (bag : Stretch) → fresh_keys_of f ≡ []
     → HoldsEntries meaning.WrapKey MemberBag k bag (wrap_keys_of f) →
-    EntriesStand k f (record { some = true; bag = bag; meaning = meaning.WrapKey; place = MemberBag })
+    EntriesStand k f (Some (record { bag = bag; meaning = meaning.WrapKey; place = MemberBag }))
 stand-member k f bag z h =
-    let e : wrap_keys_of f ≡ wrap_keys_of f ++ fresh_keys_of f =
-    sym (append-nil (wrap_keys_of f)) ∙ ap (λ (l : List WrapKey). wrap_keys_of f ++ l) (sym z) in
-    record {
-      holds = subst (HoldsEntries meaning.WrapKey MemberBag k bag) e h;
-      none = λ q. absurd (false≢true (sym q));
-    }
+    subst (HoldsEntries meaning.WrapKey MemberBag k bag)
+    (sym (append-nil (wrap_keys_of f)) ∙ ap (λ (l : List WrapKey). wrap_keys_of f ++ l) (sym z)) h

@@ -7,12 +7,11 @@ ghost use Rattle.wire_attributes.specs.Tree.{WrapKey, wrap_key_of};
 ghost use Rattle.unwrap_search.specs.inner.Entries.{IsEntry, Lists, no_entry};
 ghost use Rattle.unwrap_tree.specs.inner.Entries.{HoldsEntries};
 
+use crate::source::Source;
 use ikev2_numbers::{KWK_ID_AT, WRAPPED_AT};
 use state_keys::limits::WRAP_KEYS;
 use unwrap_search::open::Entry;
 use wire_attributes::attribute_value;
-use wire_attributes::tables::{Meaning, Place};
-use wire_readers::Stretch;
 use wire_readers::values::next_attribute;
 
 // A list of entries: the first `count` of `places`.
@@ -51,13 +50,17 @@ fn entry(v: &[u8], e: usize) -> Entry
     }
 }
 
-// Reads the entries of the KD body `kd` in their order: the attributes that mean `meaning` in the bag of the place `place`, whose
-// attributes stand in the stretch `bag`.
-pub fn entries(kd: &[u8], bag: Stretch, meaning: Meaning, place: Place) -> Listing
-    requires { (l : List WrapKey) × HoldsEntries meaning place kd.now bag l × (length l ≤ limits.wrap_keys) }
-    ensures { (l : List WrapKey) → HoldsEntries meaning place kd.now bag l →
+// Reads the entries of the KD body `kd`, which stand where `source` says, in their order.
+pub fn entries(kd: &[u8], source: Source) -> Listing
+    requires { (l : List WrapKey) × HoldsEntries source.meaning source.place kd.now source.bag l × (length l ≤ limits.wrap_keys) }
+    ensures { (l : List WrapKey) → HoldsEntries source.meaning source.place kd.now source.bag l →
         Lists kd.now result.places result.count l }
 {
+    let Source {
+        bag,
+        meaning,
+        place,
+    } = source;
     let a = bag.start;
     let e = bag.end;
     let s = &kd[a..e];

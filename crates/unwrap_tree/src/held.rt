@@ -17,7 +17,8 @@ use unwrap_paths::links::Links;
 use unwrap_search::open::{Cell, Entry};
 
 // Whether refusal 8 holds of the entries. If it does not: the keys that they reach, and the links of the entries, which the working key
-// path is read off. With a conflict the list is empty.
+// path is read off. With a conflict the list is empty. Kept as a flag beside them: the caller goes on with the links under a conflict too,
+// because a second return of it would take 30 kB of stack.
 #[derive(Clone, Copy)]
 pub struct ReachedKeys {
     pub held: Held,
@@ -30,12 +31,8 @@ pub struct ReachedKeys {
 fn with_cell(held: Held, e: Entry, c: Cell) -> Held
     ensures { Joins e c held result }
 {
-    if is_done(c) {
-        let id = e.id;
-        let there = held.find(id);
-        if there.fits {
-            return held;
-        }
+    let id = e.id;
+    if is_done(c) && !held.find(id).fits {
         let key = c.key;
         return held.enter(HeldKey { id, key });
     }

@@ -5,7 +5,7 @@ ghost use Rattle.wire_policies.specs.Policy.{policies};
 ghost use Rattle.wire_bags.specs.Bag.{bags};
 ghost use Rattle.wire_frames.specs.Frame.{Frame};
 ghost use Rattle.wire_readers.specs.inner.Values.{is_whole};
-ghost use Rattle.unwrap_tree.specs.inner.Source.{FindsRekey, no_source, FreshSource, FreshStand, Sourced, EntriesStand};
+ghost use Rattle.unwrap_tree.specs.inner.Source.{FindsRekey, FreshSource, FreshStand, Sourced, EntriesStand};
 
 use check_pairing::stretch::bag_stretch;
 use ikev2_numbers::{GIKE_UPDATE, POLICY_HEAD};
@@ -14,30 +14,16 @@ use wire_readers::Stretch;
 use wire_readers::policy::policy_parts;
 
 // Where entries stand: those attributes that mean `meaning` in the bag of the place `place`, whose attributes are the stretch `bag` of the
-// KD body. `some` is false if the frame has no entry.
+// KD body.
 #[derive(Clone, Copy)]
 pub struct Source {
-    pub some: bool,
     pub bag: Stretch,
     pub meaning: Meaning,
     pub place: Place,
 }
 
-// Answers that a frame has no entry.
-fn no_source() -> Source
-    ensures { result ≡ no_source }
-{
-    let bag = Stretch { start: 0, end: 0 };
-    Source {
-        some: false,
-        bag,
-        meaning: Meaning::WrapKey,
-        place: Place::MemberBag,
-    }
-}
-
-// Finds the first Rekey policy of the GSA body `gsa`. Answers where its SPI stands; the stretch ends at 0 if there is no such policy.
-fn rekey_spi(gsa: &[u8]) -> Stretch
+// Finds the first Rekey policy of the GSA body `gsa`. Answers where its SPI stands.
+fn rekey_spi(gsa: &[u8]) -> Option<Stretch>
     requires { is_whole (policies 0 gsa.now) ≡ true }
     ensures { FindsRekey gsa.now result }
 {
@@ -47,52 +33,46 @@ fn rekey_spi(gsa: &[u8]) -> Stretch
         if p.first == GIKE_UPDATE {
             let start = at + POLICY_HEAD;
             let end = at + p.body;
-            return Stretch { start, end };
+            return Some(Stretch { start, end });
         }
-        at = at + p.end;
+        at += p.end;
     }
-    Stretch { start: 0, end: 0 }
+    None
 }
 
-// Finds the fresh tree keys of a frame: they stand in the bag of the Rekey SA that it announces. `gsa` is its GSA body, `kd` its KD body.
-fn fresh_source(gsa: &[u8], kd: &[u8]) -> Source
+// Finds the fresh tree keys of a frame: they stand in the bag of the Rekey SA that it announces, if it does. `gsa` is its GSA body, `kd` its
+// KD body.
+fn fresh_source(gsa: &[u8], kd: &[u8]) -> Option<Source>
     requires gsa_value { (is_whole (policies 0 gsa.now) ≡ true) × (is_whole (bags true 0 kd.now) ≡ true) }
     requires fresh_source { (f : Frame) × FreshSource f gsa.now kd.now }
     ensures { (f : Frame) → FreshSource f gsa.now kd.now → FreshStand kd.now f result }
 {
-    let s = rekey_spi(gsa);
-    let start = s.start;
-    let end = s.end;
-    if end == 0 {
-        return no_source();
-    }
-    let bag = bag_stretch(kd, GIKE_UPDATE, &gsa[start..end]);
-    Source {
-        some: true,
+    let spi = rekey_spi(gsa)?;
+    let bag = bag_stretch(kd, GIKE_UPDATE, &gsa[spi.start..spi.end]);
+    Some(Source {
         bag,
         meaning: Meaning::FreshKey,
         place: Place::FreshRekeyBag,
-    }
+    })
 }
 
-// Finds the entries of a frame. `registers`: it is a registration, whose Member Key Bag has the attributes `bag` of the KD body `kd`.
+// Finds the entries of a frame, if it has any. `registers`: it is a registration, whose Member Key Bag has the attributes `bag` of the KD body `kd`.
 // `reads`: fresh tree keys are read from it. `gsa` is its GSA body.
-pub fn entries_at(registers: bool, reads: bool, gsa: &[u8], kd: &[u8], bag: Stretch) -> Source
+pub fn entries_at(registers: bool, reads: bool, gsa: &[u8], kd: &[u8], bag: Stretch) -> Option<Source>
     requires gsa_value { (is_whole (policies 0 gsa.now) ≡ true) × (is_whole (bags reads 0 kd.now) ≡ true) }
     requires sourced { (f : Frame) × Sourced registers reads f gsa.now kd.now bag }
     ensures { (f : Frame) → Sourced registers reads f gsa.now kd.now bag
         → EntriesStand kd.now f result }
 {
     if registers {
-        return Source {
-            some: true,
+        return Some(Source {
             bag,
             meaning: Meaning::WrapKey,
             place: Place::MemberBag,
-        };
+        });
     }
     if reads {
         return fresh_source(gsa, kd);
     }
-    no_source()
+    None
 }

@@ -1,5 +1,5 @@
 -- Where the entries of a frame stand. Document 02, T-11: fresh tree keys stand "in the Rekey SA's Group Key Bag". Inner.
-use Rattle.std.specs.Prelude.{ℕ, ◌≤◌, ◌≡◌, Bool, true, false, length}
+use Rattle.std.specs.Prelude.{ℕ, ◌≤◌, ◌≡◌, Bool, true, false, Option, MatchOption, length}
 use mathlib.Core.List.{List, [], ◌∷◌, ◌++◌, Memᴰ, flat_map}
 use Rattle.octets.specs.Walk.{part}
 use Rattle.lists.specs.Lists.{keep}
@@ -34,14 +34,13 @@ pub record FirstRekey (g : List ℕ) (r : Stretch) : Type 0 where
   pub order : r.start ≤ r.end
   pub inside : r.end ≤ length g
 
--- the same, or there is none and the stretch ends at 0
-pub record FindsRekey (g : List ℕ) (r : Stretch) : Type 0 where
-  pub none : r.end ≡ 0 → rekeys_in g ≡ []
-  pub some : (r.end ≡ 0 → ⊥) → FirstRekey g r
+-- the same, or there is none
+abbrev pub FindsRekey : List ℕ → Option Stretch → Type 0
+FindsRekey g r = MatchOption r (rekeys_in g ≡ []) (FirstRekey g)
 
--- no entry
-abbrev pub no_source : Source
-no_source = record { some = false; bag = record { start = 0; end = 0 }; meaning = meaning.WrapKey; place = MemberBag }
+-- l are the entries of the KD body k, which stand where r says
+abbrev pub EntriesOf : List ℕ → Option Source → List WrapKey → Type 0
+EntriesOf k r l = MatchOption r (l ≡ []) (λ s. HoldsEntries s.meaning s.place k s.bag l)
 
 -- the frame f has the GSA body g and the KD body k, from which fresh tree keys are read; these stand in bags of protocol 6 alone, policies
 -- and bags are paired, and there is one Rekey policy at most
@@ -54,9 +53,8 @@ pub record FreshSource (f : Frame) (g k : List ℕ) : Type 0 where
   pub rekeys : several_rekey_policies f ≡ false
 
 -- its fresh tree keys stand where r says
-pub record FreshStand (k : List ℕ) (f : Frame) (r : Source) : Type 0 where
-  pub holds : HoldsEntries r.meaning r.place k r.bag (fresh_keys_of f)
-  pub none : r.some ≡ false → fresh_keys_of f ≡ []
+abbrev pub FreshStand : List ℕ → Frame → Option Source → Type 0
+FreshStand k f r = EntriesOf k r (fresh_keys_of f)
 
 -- what is known of the entries of the frame f: a registration has WRAP_KEYs in its Member Key Bag `bag` and no fresh tree keys; another
 -- frame has no WRAP_KEY
@@ -68,6 +66,5 @@ pub record Sourced (registers reads : Bool) (f : Frame) (g k : List ℕ) (bag : 
   pub fresh : reads ≡ true → FreshSource f g k
 
 -- its entries stand where r says
-pub record EntriesStand (k : List ℕ) (f : Frame) (r : Source) : Type 0 where
-  pub holds : HoldsEntries r.meaning r.place k r.bag (wrap_keys_of f ++ fresh_keys_of f)
-  pub none : r.some ≡ false → wrap_keys_of f ++ fresh_keys_of f ≡ []
+abbrev pub EntriesStand : List ℕ → Frame → Option Source → Type 0
+EntriesStand k f r = EntriesOf k r (wrap_keys_of f ++ fresh_keys_of f)

@@ -25,18 +25,18 @@ use Rattle.receive.proofs.opening.open_keys.Tie as tie
 
 -- `receive::opening::open_keys` meets its contract.
 
-entries-at-requires : tie.Need-entries_at-at-requires
+entries-at-requires : tie.Need-entries_at-source-requires
 entries-at-requires c κs =
     let p = c.requires in
     let o = p.1.3 in
     ((p.0, laid_by o), (p.1.2, sourced-by o))
 
 -- where its entries stand
-stand : (c : tie.After-entries_at-at) (m : State) (lent : List ℕ) (f : Frame) →
+stand : (c : tie.After-entries_at-source) (m : State) (lent : List ℕ) (f : Frame) →
     let a = c.args in
     Openable a.row m a.tick lent a.gsa.now a.kd.now a.bag a.held a.zero a.reads f →
-    EntriesStand a.kd.now f c.entries_at-at.result
-stand c m lent f o = c.entries_at-at.ensures f (sourced-by o)
+    EntriesStand a.kd.now f c.entries_at-source.result
+stand c m lent f o = c.entries_at-source.ensures f (sourced-by o)
 
 slice-aggregate-lend-keys : tie.Need-slice_bounds-lend_keys-end
 slice-aggregate-lend-keys c = search rules
@@ -90,7 +90,7 @@ reach-any-requires c κs =
     c.lend_keys.ensures in (
       (
         entries_of f,
-        (stand c.before.before.before.before.before.before.before.before.before p.0 p.1 f o).holds,
+        (stand c.before.before.before.before.before.before.before.before.before p.0 p.1 f o),
         entries-few
             o.bagged,
         entries-nonzero o.bagged,
@@ -108,7 +108,7 @@ tree c m lent f o =
     let a = c.args in
     let e = stand c.before.before.before.before.before.before.before.before.before.before m lent f o in
     opened-tree o c.reach_any-found.result
-    (c.reach_any-found.ensures (entries_of f) (named_of a.row a.held) e.holds (entries-nonzero o.bagged) e.none
+    (c.reach_any-found.ensures (entries_of f) (named_of a.row a.held) e (entries-nonzero o.bagged)
     (named-lent a.row.names_held_keys a.held c.named_count-m.ensures
     c.lend_keys.ensures))
 

@@ -16,7 +16,7 @@ loop-x-preserved c =
     let h = c.requires.1 in
     let m = c.in-Some.ensures in
     let f = m.value in
-    let s = part k a.bag.start a.bag.end in
+    let s = part k a.source.bag.start a.source.bag.end in
     let v = c.attribute_value.ensures.result_value ∙ m.octets in
     let i = taken-inside _ _ h.wrapped k _ _ h.order h.inside l.at _ _ f in
     let e = taken-first _ _ h.wrapped k _ _ h.order h.inside l.at _ _ f _ v in
@@ -27,9 +27,9 @@ loop-x-preserved c =
       f.inside,
       f.rest,
       omega (arith, l.invariant.3, ap length e),
-      gathered_next k l.places l.n (bag_keys a.meaning a.place (drop c.in-Some.x.end s)) (bag_keys a.meaning a.place s) c.entry.result
+      gathered_next k l.places l.n (bag_keys a.source.meaning a.source.place (drop c.in-Some.x.end s)) (bag_keys a.source.meaning a.source.place s) c.entry.result
           (wrap_key_of c.attribute_value.result.now)
-          (subst (λ (x : List WrapKey). Gathered k l.places l.n x (bag_keys a.meaning a.place s)) e l.invariant.4)
+          (subst (λ (x : List WrapKey). Gathered k l.places l.n x (bag_keys a.source.meaning a.source.place s)) e l.invariant.4)
           room (omega (arith, l.invariant.0, room)) is,
     )
 
@@ -37,7 +37,7 @@ pub returns : goal.returns
 returns c l h =
     let k = c.args.kd.now in
     let u = c.loop-x in
-    let s = part k c.args.bag.start c.args.bag.end in
+    let s = part k c.args.source.bag.start c.args.source.bag.end in
     subst (Lists k u.places u.n) (sym h.keys)
-    (gathered-all k u.places u.n (bag_keys c.args.meaning c.args.place (drop u.at s)) (bag_keys c.args.meaning c.args.place s) u.invariant.4
+    (gathered-all k u.places u.n (bag_keys c.args.source.meaning c.args.source.place (drop u.at s)) (bag_keys c.args.source.meaning c.args.source.place s) u.invariant.4
     (ap (map wrap_key_of) c.in_default.ensures.0))

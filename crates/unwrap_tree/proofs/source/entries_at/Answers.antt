@@ -27,5 +27,4 @@ returns-then-reads c f y =
 pub returns : goal.returns
 returns c f y =
     let a = c.args in
-    stand-none a.kd.now f c.no_source.result c.no_source.ensures (y.none c.if-registers.false)
-    (y.unread c.if-reads.false)
+    stand-none a.kd.now f (y.none c.if-registers.false) (y.unread c.if-reads.false)
