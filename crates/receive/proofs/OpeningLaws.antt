@@ -22,16 +22,19 @@ use Rattle.state.proofs.Kept.{no-key-formed, keys-of-held}
 use Rattle.rules_chains.specs.Chain.{Root}
 use Rattle.rules_outcome.specs.Roots.{roots_of, entries_of, wrapping_size}
 use Rattle.rules_outcome.specs.Holding.{new_rekey, rekey_copies, held_before}
-use Rattle.unwrap_search.specs.inner.Search.{roots_with}
+use Rattle.std.specs.Prelude.{Option}
+use Rattle.wire_attributes.specs.Tree.{WrapKey}
+use Rattle.unwrap_search.specs.inner.Search.{roots_with, Nonzero}
 use Rattle.unwrap_lending.specs.inner.Lending.{place_octets, lent_block, Lends, LendsHeld, LendsFirst}
 use Rattle.unwrap_paths.specs.declared.held.PathHeld.{PathHeld}
-use Rattle.unwrap_tree.specs.inner.Source.{Sourced}
+use Rattle.unwrap_tree.specs.inner.Source.{Sourced, EntriesOf, EntriesStand}
+use Rattle.unwrap_tree.specs.declared.source.Source.{Source}
 use Rattle.unwrap_tree.specs.inner.Reached.{TreeAnswers}
 use Rattle.unwrap_tree.specs.declared.held.ReachedKeys.{ReachedKeys}
 use Rattle.unwrap_sas.specs.inner.Keyed.{ChecksPassed}
 use Rattle.receive.specs.inner.Passing.{HeldTold}
 use Rattle.receive.specs.inner.Opening.{Openable, NextTold}
-use Rattle.receive.proofs.EntryLaws.{sourced, checked, own-formed, roots-are}
+use Rattle.receive.proofs.EntryLaws.{sourced, checked, own-formed, roots-are, entries-nonzero}
 use Rattle.receive.proofs.AfterLaws.{told-after}
 
 -- the held keys that a KWK ID can name in an exchange with the row e
@@ -101,6 +104,14 @@ module _ {e : Exchange} {m : State} {now : ℕ} {lent g k : List ℕ} {bag : Str
       subst (λ (x : ℕ). TreeAnswers (roots_of limits m now lent f) (entries_of f) x zero (keys_of (named_of e held)) r) o.key.size
       (subst (λ (x : List Root). TreeAnswers x (entries_of f) zero.count zero (keys_of (named_of e held)) r)
       (roots-are o.bagged (named_of e held) named zero o.key) t)
+
+  -- by what the calls before answer
+  pub reached-by : (source : Option Source) (ids block : List ℕ) → EntriesStand k f source → LendsHeld (named_of e held) ids block →
+      (r : ReachedKeys) → ((l : List WrapKey) (h : Held) → EntriesOf k source l → Nonzero l → LendsHeld h ids block →
+      TreeAnswers (roots_with (value_of zero) l (keys_of h)) l zero.count zero (keys_of h) r) →
+      TreeAnswers (roots_of limits m now lent f) (entries_of f) (wrapping_size limits m now lent f) zero (keys_of (named_of e held)) r
+  reached-by source ids block stand lends r told =
+      opened-tree r (told (entries_of f) (named_of e held) stand (entries-nonzero o.bagged) lends)
 
   -- what is said of the list that follows the member's own
   pub told-by : (r : PathHeld) →

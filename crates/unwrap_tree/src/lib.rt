@@ -21,9 +21,9 @@ ghost use Rattle.unwrap_tree.specs.inner.Entries.{HoldsEntries};
 ghost use Rattle.unwrap_tree.specs.inner.Source.{EntriesOf};
 
 use held::ReachedKeys;
+use source::Source;
 use state::held::Held;
 use state_keys::kinds::WrappingKey;
-use source::Source;
 use unwrap_paths::links::{Links, links_of};
 
 // Finds the keys that the entries of the KD body `kd` reach, from `zero` as key 0 and from the held keys that `ids` and `block` lend, and

@@ -58,7 +58,13 @@ fn fresh_source(gsa: &[u8], kd: &[u8]) -> Option<Source>
 
 // Finds the entries of a frame, if it has any. `registers`: it is a registration, whose Member Key Bag has the attributes `bag` of the KD body `kd`.
 // `reads`: fresh tree keys are read from it. `gsa` is its GSA body.
-pub fn entries_at(registers: bool, reads: bool, gsa: &[u8], kd: &[u8], bag: Stretch) -> Option<Source>
+pub fn entries_at(
+    registers: bool,
+    reads: bool,
+    gsa: &[u8],
+    kd: &[u8],
+    bag: Stretch,
+) -> Option<Source>
     requires gsa_value { (is_whole (policies 0 gsa.now) ≡ true) × (is_whole (bags reads 0 kd.now) ≡ true) }
     requires sourced { (f : Frame) × Sourced registers reads f gsa.now kd.now bag }
     ensures { (f : Frame) → Sourced registers reads f gsa.now kd.now bag
