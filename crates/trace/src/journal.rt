@@ -1,78 +1,79 @@
-// Steps that are journaled (document 02, T-13), from a line `j` on: each prints its line behind what its call prints first.
-use crate::reply::{TraceReply, bad, done};
-use crate::{frame, text};
+// Steps that are journaled (document 02, T-13), from a line `j` on: each puts its line behind what its call prints first.
+use crate::calls::put_answer;
+use crate::text::part;
+use crate::traced::Traced;
 use gikev2::Member;
 use journaling::{JournalEntry, Journaled, LINE_ROOM};
+use std::fmt::Write;
+use std::{fmt, str};
 
-// Replies to a line `j`. `rest` is the line without its letter, and must be empty.
-pub(crate) fn reply(m: Member, rest: &[u8], out: &mut [u8]) -> TraceReply {
-    if 0 < rest.len() {
-        return bad(m, out);
-    }
-    done(m, out)
-}
-
-// Puts what a step prints first.
-fn put_entry(e: &JournalEntry, accepted: &[u8], out: &mut [u8]) -> usize {
-    match *e {
-        JournalEntry::Written(_) => text::put(out, 0, accepted),
-        JournalEntry::NoRoom => text::put(out, 0, b"no room\n"),
-        JournalEntry::Refused(a) => frame::put_answer(a, out),
-    }
-}
-
-// Puts the line of a step that took effect, which is at the start of `room` and ends in a newline.
-fn line(e: JournalEntry, room: &[u8], out: &mut [u8], at: usize) -> usize {
+// Puts a journaled step: `accepted` is what it prints first where it took effect; then its line stands at the start of `room`.
+fn put_entry(w: &mut impl Write, e: JournalEntry, accepted: &str, room: &[u8]) -> fmt::Result {
     match e {
         JournalEntry::Written(n) => {
-            let word = text::put(out, at, b"line ");
-            text::put(out, word, text::part(room, 0, n))
+            writeln!(w, "{accepted}")?;
+            put_line(w, part(room, 0, n))
         }
-        JournalEntry::NoRoom => at,
-        JournalEntry::Refused(_) => at,
+        JournalEntry::NoRoom => writeln!(w, "no room"),
+        JournalEntry::Refused(a) => put_answer(w, "answer", a),
     }
 }
 
-// Replies to a journaled step: `accepted` is what it prints first where it took effect.
-fn reply_journaled(j: Journaled, accepted: &[u8], room: &[u8], out: &mut [u8]) -> TraceReply {
-    let e = j.entry;
-    let first = put_entry(&e, accepted, out);
-    let at = line(e, room, out, first);
-    let member = j.member;
-    TraceReply { member, at }
+// Puts the line of a step, which ends in a newline.
+fn put_line(w: &mut impl Write, line: &[u8]) -> fmt::Result {
+    write!(w, "line {}", str::from_utf8(line).unwrap_or(""))
+}
+
+// Takes the step `j`, and puts what it prints.
+fn put_step(
+    t: &mut Traced,
+    j: Journaled,
+    accepted: &str,
+    room: &[u8],
+    w: &mut impl Write,
+) -> fmt::Result {
+    t.member = j.member;
+    put_entry(w, j.entry, accepted, room)
 }
 
 // Lets the member receive `frame`, journaled.
-pub(crate) fn receive_journaled(
-    m: Member,
+pub(crate) fn put_received(
+    t: &mut Traced,
     frame: &[u8],
-    key: &[u8],
     tick: u32,
-    out: &mut [u8],
-) -> TraceReply {
-    let mut room = [0u8; LINE_ROOM];
-    let j = journaling::receive(m, frame, key, tick, &mut room);
-    reply_journaled(j, b"answer 0\n", &room, out)
-}
-
-// Puts the line of a rekey that came sealed and was accepted: `frame` is what was opened, and `m` the member before it.
-pub(crate) fn opened_line(m: Member, frame: &[u8], tick: u32, out: &mut [u8], at: usize) -> usize {
-    let mut room = [0u8; LINE_ROOM];
-    let j = journaling::receive(m, frame, b"", tick, &mut room);
-    let e = j.entry;
-    line(e, &room, out, at)
+    w: &mut impl Write,
+) -> fmt::Result {
+    let mut room = [0; LINE_ROOM];
+    let lent = t.lent.unwrap_or(0);
+    let j = journaling::receive(t.member, frame, part(&t.key, 0, lent), tick, &mut room);
+    put_step(t, j, "answer 0", &room, w)
 }
 
 // Sweeps the member, journaled.
-pub(crate) fn swept(m: Member, tick: u32, out: &mut [u8]) -> TraceReply {
-    let mut room = [0u8; LINE_ROOM];
-    let j = journaling::sweep(m, tick, &mut room);
-    reply_journaled(j, b"done\n", &room, out)
+pub(crate) fn put_swept(t: &mut Traced, tick: u32, w: &mut impl Write) -> fmt::Result {
+    let mut room = [0; LINE_ROOM];
+    let j = journaling::sweep(t.member, tick, &mut room);
+    put_step(t, j, "done", &room, w)
 }
 
 // Lets the member leave, journaled.
-pub(crate) fn leave_journaled(m: Member, out: &mut [u8]) -> TraceReply {
-    let mut room = [0u8; LINE_ROOM];
-    let j = journaling::leave(m, &mut room);
-    reply_journaled(j, b"done\n", &room, out)
+pub(crate) fn put_left(t: &mut Traced, w: &mut impl Write) -> fmt::Result {
+    let mut room = [0; LINE_ROOM];
+    let j = journaling::leave(t.member, &mut room);
+    put_step(t, j, "done", &room, w)
+}
+
+// Puts the line of a rekey that came sealed and was accepted: `frame` is what was opened, and `before` the member before it.
+pub(crate) fn put_opened(
+    before: Member,
+    frame: &[u8],
+    tick: u32,
+    w: &mut impl Write,
+) -> fmt::Result {
+    let mut room = [0; LINE_ROOM];
+    let j = journaling::receive(before, frame, b"", tick, &mut room);
+    match j.entry {
+        JournalEntry::Written(n) => put_line(w, part(&room, 0, n)),
+        _ => Ok(()),
+    }
 }

@@ -2,20 +2,16 @@
 // prints keys. tests/README.md has its text.
 #![tactic(auto)]
 
+mod calls;
 mod fragment;
-mod frame;
 mod input;
 mod journal;
-mod key;
-mod leave;
-mod profile;
-mod question;
-mod reply;
 mod sealed;
-mod sweep;
 mod text;
+mod traced;
 mod whole;
 
+// A write that failed ends the program, and nothing is told of it.
 fn main(rt: HostRuntime) {
-    input::trace(&rt);
+    let _ = input::trace(&rt);
 }

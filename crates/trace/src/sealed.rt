@@ -1,9 +1,17 @@
-// A line `x`, a room's length, a tick and a frame: receives the sealed frame with a room of that many octets, and prints the answer and
-// what was written.
-use crate::reply::{FRAME, TraceReply, bad};
-use crate::{frame, journal, text};
-use gikev2::Member;
+// A line `x`, a room's length, a tick and a frame: receives the sealed frame with a room of that many octets, and puts the answer and what
+// was written.
+ghost use Rattle.std.specs.Prelude.{◌≤◌};
+ghost use Rattle.trace.specs.declared.sealed.TheConstants.{MOST_ROOM};
+
+use crate::calls::{put_answer, put_bad};
+use crate::journal::put_opened;
+use crate::text::part;
+use crate::traced::{FRAME, OCTETS, Traced};
+use ikev2_numbers::{HEADER, LENGTH_AT};
 use octets::numbers::be32_at;
+use std::fmt;
+use std::fmt::Write;
+use text_names::Hex;
 
 // What each octet of the room is before the call.
 pub(crate) const LENT: u8 = 0xa5;
@@ -11,83 +19,70 @@ pub(crate) const LENT: u8 = 0xa5;
 // The most octets of a room.
 pub(crate) const MOST_ROOM: usize = 2 * FRAME;
 
-// Answers the octets of the opened frame at the start of `room`, as its header counts them.
-pub(crate) fn opened_size(room: &[u8]) -> usize {
-    if room.len() < 28 {
-        return 0;
+// What a line with a room asks: the room's length, the tick, and the octets of the frame or fragment.
+#[derive(Clone, Copy)]
+pub(crate) struct Asked<'a> {
+    pub(crate) size: usize,
+    pub(crate) tick: u32,
+    pub(crate) octets: &'a [u8],
+    ghost within: { size ≤ MOST_ROOM },
+}
+
+// Reads what the octets `given` of a line ask, if they are enough and the room is not too long.
+pub(crate) fn read_asked(given: &[u8]) -> Option<Asked<'_>> {
+    if given.len() < 8 {
+        return None;
     }
-    be32_at(room, 24) as usize
+    let size = be32_at(given, 0) as usize;
+    if MOST_ROOM < size {
+        return None;
+    }
+    Some(Asked {
+        size,
+        tick: be32_at(given, 4),
+        octets: &given[8..],
+    })
+}
+
+// Answers the octets of the opened frame at the start of `room`, as its header counts them.
+pub(crate) fn opened(room: &[u8]) -> &[u8] {
+    if room.len() < HEADER {
+        return &[];
+    }
+    part(room, 0, be32_at(room, LENGTH_AT) as usize)
 }
 
 // Puts the line of what was written, if `room` is not as lent.
-pub(crate) fn wrote(room: &[u8], at: usize, out: &mut [u8]) -> usize {
-    let lent = [LENT; MOST_ROOM];
-    if octets::compare::same(room, text::part(&lent, 0, room.len())) {
-        return at;
+pub(crate) fn put_wrote(w: &mut impl Write, room: &[u8]) -> fmt::Result {
+    if room.iter().all(|o| *o == LENT) {
+        return Ok(());
     }
-    let word = text::put(out, at, b"wrote");
-    let behind = text::octets(out, word, text::part(room, 0, opened_size(room)));
-    text::newline(out, behind)
+    writeln!(w, "wrote {}", Hex(opened(room)))
 }
 
-// Lets the member receive `frame` with `room`, and puts its answer. Journals what was opened, if steps are `journaled`.
-fn receive_sealed(
-    m: Member,
-    frame: &[u8],
-    room: &mut [u8],
-    tick: u32,
-    journaled: bool,
-    out: &mut [u8],
-) -> TraceReply {
-    let x = m.receive_sealed(frame, room, tick);
-    let member = x.member;
-    let answer = x.answer;
-    let accepted = answer.number() == 0;
-    let told = frame::put_answer(answer, out);
-    let written = wrote(room, told, out);
-    if accepted & journaled {
-        let opened = text::part(room, 0, opened_size(room));
-        let at = journal::opened_line(m, opened, tick, out, written);
-        return TraceReply { member, at };
+// Replies to a sealed frame. `digits` is the line without its letter. Journals what was opened, if steps are journaled.
+pub(crate) fn put_sealed_reply(t: &mut Traced, digits: &[u8], w: &mut impl Write) -> fmt::Result {
+    let mut line = [0; OCTETS];
+    if !text_lines::is_hex(digits) {
+        return put_bad(w);
     }
-    TraceReply {
-        member,
-        at: written,
+    let n = text_lines::put_octets(&mut line, 0, digits);
+    match read_asked(part(&line, 0, n)) {
+        Some(a) => receive_sealed(t, a, w),
+        None => put_bad(w),
     }
 }
 
-// Makes the room that the octets of a line ask for.
-fn with_room(m: Member, given: &[u8], journaled: bool, out: &mut [u8]) -> TraceReply {
-    if given.len() < 8 {
-        return bad(m, out);
+fn receive_sealed(t: &mut Traced, a: Asked, w: &mut impl Write) -> fmt::Result {
+    let mut rooms = [LENT; MOST_ROOM];
+    let room = &mut rooms[..a.size];
+    let before = t.member;
+    let x = before.receive_sealed(a.octets, room, a.tick);
+    t.member = x.member;
+    put_answer(w, "answer", x.answer)?;
+    put_wrote(w, room)?;
+    if t.journaled && x.answer.number() == 0 {
+        put_opened(before, opened(room), a.tick, w)?;
     }
-    let size = be32_at(given, 0) as usize;
-    let tick = be32_at(given, 4);
-    if MOST_ROOM < size {
-        return bad(m, out);
-    }
-    let mut room = [LENT; MOST_ROOM];
-    receive_sealed(
-        m,
-        text::part(given, 8, given.len()),
-        &mut room[0..size],
-        tick,
-        journaled,
-        out,
-    )
-}
-
-// Replies to a sealed frame. `digits` is the line without its letter; its octets go to the start of `room`.
-pub(crate) fn reply(
-    m: Member,
-    digits: &[u8],
-    journaled: bool,
-    room: &mut [u8],
-    out: &mut [u8],
-) -> TraceReply {
-    if text_lines::is_hex(digits) {
-        let n = text_lines::put_octets(room, 0, digits);
-        return with_room(m, text::part(room, 0, n), journaled, out);
-    }
-    bad(m, out)
+    Ok(())
 }

@@ -1,40 +1,65 @@
-// Puts what the lines are made of. Each function writes text into `out` from `at` on and answers the place behind it. Text that finds no
-// room is left out.
+// Text that gathers in a room of its own.
+ghost use Rattle.std.specs.Prelude.{◌≤◌};
+
+use std::fmt;
+
+// Text of at most `ROOM` octets.
+#[derive(Drop)]
+pub(crate) struct Text<const ROOM: usize> {
+    room: [u8; ROOM],
+    len: usize,
+    ghost within: { len ≤ ROOM },
+}
+
+impl<const ROOM: usize> Text<ROOM> {
+    pub(crate) fn new() -> Text<ROOM> {
+        Text {
+            room: [0; ROOM],
+            len: 0,
+        }
+    }
+
+    pub(crate) fn len(&self) -> usize {
+        self.len
+    }
+
+    // Answers the text from `from` on, or none if it is shorter.
+    pub(crate) fn behind(&self, from: usize) -> &[u8] {
+        part(&self.room, from, self.len)
+    }
+
+    // Drops the text from `len` on.
+    pub(crate) fn truncate(&mut self, len: usize) {
+        if len < self.len {
+            self.len = len;
+        }
+    }
+
+    fn put(&mut self, octet: u8) -> fmt::Result {
+        if self.len == ROOM {
+            return Err(fmt::Error);
+        }
+        self.room[self.len] = octet;
+        self.len += 1;
+        Ok(())
+    }
+
+    // Puts `octets` as they stand. Is an error where they find no room.
+    pub(crate) fn put_all(&mut self, octets: &[u8]) -> fmt::Result {
+        for octet in octets {
+            self.put(*octet)?;
+        }
+        Ok(())
+    }
+}
+
+impl<const ROOM: usize> fmt::Write for Text<ROOM> {
+    fn write_str(&mut self, s: &str) -> fmt::Result {
+        self.put_all(s.as_bytes())
+    }
+}
 
 // Answers the octets of `s` from `from` up to `to`, or none if these are not all within `s`.
 pub(crate) fn part(s: &[u8], from: usize, to: usize) -> &[u8] {
-    if to <= s.len() {
-        if from <= to {
-            return &s[from..to];
-        }
-    }
-    &s[0..0]
-}
-
-// Puts `text` as it stands.
-pub(crate) fn put(out: &mut [u8], at: usize, text: &[u8]) -> usize {
-    let mut place = at;
-    let mut i = 0;
-    while i < text.len() {
-        place = text_lines::put(out, place, text[i]);
-        i += 1;
-    }
-    place
-}
-
-// Puts a blank and `n` in decimal.
-pub(crate) fn number(out: &mut [u8], at: usize, n: usize) -> usize {
-    let behind = text_lines::put(out, at, b' ');
-    text_lines::put_number(out, behind, n)
-}
-
-// Puts a blank and `octets` in hexadecimal.
-pub(crate) fn octets(out: &mut [u8], at: usize, octets: &[u8]) -> usize {
-    let behind = text_lines::put(out, at, b' ');
-    text_lines::put_digits(out, behind, octets)
-}
-
-// Puts a newline.
-pub(crate) fn newline(out: &mut [u8], at: usize) -> usize {
-    text_lines::put(out, at, b'\n')
+    s.get(from..to).unwrap_or(&[])
 }

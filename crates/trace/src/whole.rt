@@ -1,14 +1,14 @@
 // Puts the text of the whole member: its SAs and held keys, each on a line, and the least Message ID.
-ghost use Rattle.std.specs.Prelude.{◌≤◌};
-
-use crate::text;
+use crate::text::part;
 use gikev2::Member;
-use state::held::{Held, HeldKey};
+use state::held::HeldKey;
 use state::least::Least;
 use state_keys::kinds::{RekeyKey, WrappingKey};
 use state_keys::limits::{HELD_KEYS, SAS};
 use state_sa::entry::{Condition, ESP, Lifetime, Sa};
-use state_table::Table;
+use std::fmt;
+use std::fmt::Write;
+use text_names::Hex;
 
 // The most characters of a number.
 const NUMBER: usize = 20;
@@ -16,7 +16,9 @@ const NUMBER: usize = 20;
 // The most characters of the words and blanks of a line, with its newline.
 const WORDS: usize = 32;
 
-// The most octets of an SPI.
+// The octets of an ESP SA's SPI, and the most of any.
+const DATA_SPI: usize = 4;
+
 const SPI: usize = 16;
 
 // The most characters of an SA's line, which has seven numbers at most.
@@ -31,125 +33,49 @@ const LEAST_LINE: usize = WORDS + NUMBER;
 // The most characters of a whole member.
 pub(crate) const MOST: usize = SAS * SA_LINE + HELD_KEYS * HELD_LINE + LEAST_LINE;
 
-// Puts a blank and the condition of an SA.
-pub(crate) fn condition(out: &mut [u8], at: usize, c: Condition) -> usize {
+// Puts the condition and the lifetime of an SA, a blank before each.
+pub(crate) fn put_times(w: &mut impl Write, c: Condition, l: Lifetime) -> fmt::Result {
     match c {
-        Condition::Live => text::put(out, at, b" live"),
-        Condition::Retiring { start, delay } => {
-            let a = text::put(out, at, b" retiring");
-            let b = text::number(out, a, start as usize);
-            text::number(out, b, delay as usize)
-        }
+        Condition::Live => write!(w, " live")?,
+        Condition::Retiring { start, delay } => write!(w, " retiring {start} {delay}")?,
     }
-}
-
-// Puts a blank and the lifetime of an SA.
-pub(crate) fn lifetime(out: &mut [u8], at: usize, l: Lifetime) -> usize {
     match l {
-        Lifetime::Unlimited => text::put(out, at, b" life none"),
-        Lifetime::Limited { start, seconds } => {
-            let a = text::put(out, at, b" life");
-            let b = text::number(out, a, start as usize);
-            text::number(out, b, seconds as usize)
-        }
+        Lifetime::Unlimited => write!(w, " life none"),
+        Lifetime::Limited { start, seconds } => write!(w, " life {start} {seconds}"),
     }
 }
 
-fn spi_size(protocol: u8) -> usize {
-    if protocol == ESP {
-        return 4;
-    }
-    SPI
-}
-
-// Puts the name of an SA: the word, the protocol and the SPI.
-fn name(out: &mut [u8], at: usize, s: Sa) -> usize {
+// Puts an SA: its name, its keying octets with the counts of their two parts, its condition and its lifetime.
+fn put_sa(w: &mut impl Write, s: &Sa) -> fmt::Result {
     let protocol = s.protocol;
-    let spi = s.spi;
-    let a = text::put(out, at, b"sa");
-    let b = text::number(out, a, protocol as usize);
-    text::octets(out, b, text::part(&spi, 0, spi_size(protocol)))
+    let size = if protocol == ESP { DATA_SPI } else { SPI };
+    write!(w, "sa {protocol} {}", Hex(part(&s.spi, 0, size)))?;
+    write!(w, " {}", Hex(part(&s.octets, 0, s.count)))?;
+    write!(w, " {} {}", s.encryption, s.wrapping)?;
+    put_times(w, s.condition, s.lifetime)?;
+    writeln!(w)
 }
 
-// Puts the keying octets of an SA, and the counts of their two parts.
-fn keying(out: &mut [u8], at: usize, s: Sa) -> usize {
-    let octets = s.octets;
-    let a = text::octets(out, at, text::part(&octets, 0, s.count));
-    let b = text::number(out, a, s.encryption);
-    text::number(out, b, s.wrapping)
+fn put_held_key(w: &mut impl Write, k: &HeldKey) -> fmt::Result {
+    writeln!(
+        w,
+        "held {} {}",
+        k.id,
+        Hex(part(&k.key.octets, 0, k.key.count))
+    )
 }
 
-fn sa(out: &mut [u8], at: usize, s: Sa) -> usize {
-    let c = s.condition;
-    let l = s.lifetime;
-    let a = name(out, at, s);
-    let b = keying(out, a, s);
-    let d = condition(out, b, c);
-    let e = lifetime(out, d, l);
-    text::newline(out, e)
-}
-
-// Answers `count`, or `most` if it is more: the count of a broken list may be more than the list holds.
-pub(crate) fn within(count: usize, most: usize) -> usize
-    ensures { result ≤ most }
-{
-    if most < count {
-        return most;
+// Puts the whole member `m`. The count of a broken list may be more than the list holds.
+pub(crate) fn put_member(w: &mut impl Write, m: &Member) -> fmt::Result {
+    let state = &m.state;
+    for s in state.table.sas.iter().take(state.table.count) {
+        put_sa(w, s)?;
     }
-    count
-}
-
-fn sas(out: &mut [u8], at: usize, t: Table) -> usize {
-    let n = within(t.count, SAS);
-    let mut place = at;
-    let mut i: usize = 0;
-    while i < n {
-        let s = t.sas[i];
-        place = sa(out, place, s);
-        i += 1;
+    for k in state.held.keys.iter().take(state.held.count) {
+        put_held_key(w, k)?;
     }
-    place
-}
-
-fn held_key(out: &mut [u8], at: usize, k: HeldKey) -> usize {
-    let key = k.key;
-    let octets = key.octets;
-    let a = text::put(out, at, b"held");
-    let b = text::number(out, a, k.id as usize);
-    let d = text::octets(out, b, text::part(&octets, 0, key.count));
-    text::newline(out, d)
-}
-
-fn put_held(out: &mut [u8], at: usize, h: Held) -> usize {
-    let n = within(h.count, HELD_KEYS);
-    let mut place = at;
-    let mut i: usize = 0;
-    while i < n {
-        let k = h.keys[i];
-        place = held_key(out, place, k);
-        i += 1;
+    match state.least {
+        Least::Id(n) => writeln!(w, "least {n}"),
+        Least::NoneAnyMore => writeln!(w, "least none"),
     }
-    place
-}
-
-fn least(out: &mut [u8], at: usize, l: Least) -> usize {
-    match l {
-        Least::Id(n) => {
-            let a = text::put(out, at, b"least");
-            let b = text::number(out, a, n as usize);
-            text::newline(out, b)
-        }
-        Least::NoneAnyMore => text::put(out, at, b"least none\n"),
-    }
-}
-
-// Puts the whole member `m`.
-pub(crate) fn member(out: &mut [u8], at: usize, m: Member) -> usize {
-    let state = m.state;
-    let t = state.table;
-    let h = state.held;
-    let l = state.least;
-    let a = sas(out, at, t);
-    let b = put_held(out, a, h);
-    least(out, b, l)
 }
