@@ -2,8 +2,7 @@
 // last such line left. Puts the answer, the numbers of the fragments that wait, and what was written.
 use crate::calls::{put_answer, put_bad};
 use crate::journal::put_opened;
-use crate::sealed::{Asked, LENT, MOST_ROOM, opened, put_wrote, read_asked};
-use crate::text::part;
+use crate::sealed::{LENT, MOST_ROOM, opened, put_wrote, read_asked};
 use crate::traced::{OCTETS, Traced};
 use fragments::Collection;
 use gikev2::fragment::FragmentAnswer;
@@ -40,17 +39,9 @@ fn is_accepted(a: FragmentAnswer) -> bool {
 // Replies to a fragment. `digits` is the line without its letter. Journals the whole frame, if steps are journaled.
 pub(crate) fn put_fragment_reply(t: &mut Traced, digits: &[u8], w: &mut impl Write) -> fmt::Result {
     let mut line = [0; OCTETS];
-    if !text_lines::is_hex(digits) {
+    let Some(a) = read_asked(digits, &mut line) else {
         return put_bad(w);
-    }
-    let n = text_lines::put_octets(&mut line, 0, digits);
-    match read_asked(part(&line, 0, n)) {
-        Some(a) => receive_fragment(t, a, w),
-        None => put_bad(w),
-    }
-}
-
-fn receive_fragment(t: &mut Traced, a: Asked, w: &mut impl Write) -> fmt::Result {
+    };
     let mut rooms = [LENT; MOST_ROOM];
     let room = &mut rooms[..a.size];
     let before = t.member;

@@ -28,8 +28,14 @@ pub(crate) struct Asked<'a> {
     ghost within: { size ≤ MOST_ROOM },
 }
 
-// Reads what the octets `given` of a line ask, if they are enough and the room is not too long.
-pub(crate) fn read_asked(given: &[u8]) -> Option<Asked<'_>> {
+// Reads what a line with a room asks. `digits` is the line without its letter; its octets go to the start of `line`. Answers nothing for a
+// line that is not hexadecimal or too short, and for a room that is too long.
+pub(crate) fn read_asked<'a>(digits: &[u8], line: &'a mut [u8]) -> Option<Asked<'a>> {
+    if !text_lines::is_hex(digits) {
+        return None;
+    }
+    let n = text_lines::put_octets(line, 0, digits);
+    let given = part(line, 0, n);
     if given.len() < 8 {
         return None;
     }
@@ -63,17 +69,9 @@ pub(crate) fn put_wrote(w: &mut impl Write, room: &[u8]) -> fmt::Result {
 // Replies to a sealed frame. `digits` is the line without its letter. Journals what was opened, if steps are journaled.
 pub(crate) fn put_sealed_reply(t: &mut Traced, digits: &[u8], w: &mut impl Write) -> fmt::Result {
     let mut line = [0; OCTETS];
-    if !text_lines::is_hex(digits) {
+    let Some(a) = read_asked(digits, &mut line) else {
         return put_bad(w);
-    }
-    let n = text_lines::put_octets(&mut line, 0, digits);
-    match read_asked(part(&line, 0, n)) {
-        Some(a) => receive_sealed(t, a, w),
-        None => put_bad(w),
-    }
-}
-
-fn receive_sealed(t: &mut Traced, a: Asked, w: &mut impl Write) -> fmt::Result {
+    };
     let mut rooms = [LENT; MOST_ROOM];
     let room = &mut rooms[..a.size];
     let before = t.member;
