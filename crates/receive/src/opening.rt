@@ -107,7 +107,7 @@ pub fn open_keys(
     let source = entries_at(row.registers, reads, gsa, kd, bag);
     let mut ids = [0u32; HELD_KEYS];
     let mut block = [0u8; BLOCK];
-    lend_keys(held, &mut ids, &mut block);
+    lend_keys(&held, &mut ids, &mut block);
     let m = named_count(row.names_held_keys, held.count);
     let e = PLACE * m;
     let found = reach_any(kd, source, zero, &ids[..m], &block[..e]);
@@ -116,7 +116,7 @@ pub fn open_keys(
     let carried = links.ids;
     let n = links.count;
     let mut fresh = [0u8; BLOCK];
-    lend_named(&carried[..n], reached, &mut fresh);
+    lend_named(&carried[..n], &reached, &mut fresh);
     let end = PLACE * n;
     let keyed = open_sas(
         reads,

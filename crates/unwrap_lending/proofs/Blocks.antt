@@ -11,7 +11,6 @@ use lib.Seq.{drop-drop, drop_at, drop-cons, get_or-drop, take-append-le}
 use Rattle.octets.specs.Numbers.{oct}
 use Rattle.octets.specs.Walk.{part}
 use Rattle.state_keys.specs.Kinds.{value_of}
-use Rattle.lists.proofs.Cases.{lt-cases}
 use Rattle.state.specs.Held.{blank_key, without_key, key_with}
 use Rattle.state.specs.declared.held.HeldKey.{HeldKey}
 use Rattle.state_keys.specs.declared.kinds.WrappingKey.{WrappingKey}
@@ -133,13 +132,3 @@ module _ (keys : List HeldKey) (ids block : List ℕ) (lends : Lends keys ids bl
     no_value g =
         let n = ids-length in
         ap (λ m. value_of m.key) (sym (passed-keys r (omega arith) ∙ key-end (omega arith)))
-
--- ---- none of the Key IDs passed is the one looked for
-abbrev pub NonePassed : ℕ → List ℕ → ℕ → Type 0
-NonePassed id ids i = (j : ℕ) → j < i → get_or ids j 0 ≡ id → ⊥
-
-pub none_passed : (id : ℕ) (ids : List ℕ) → NonePassed id ids 0
-none_passed id ids j h e = absurd (omega arith)
-
-pub one-passed : (id : ℕ) (ids : List ℕ) (i : ℕ) → NonePassed id ids i → (get_or ids i 0 ≡ id → ⊥) → NonePassed id ids (i + 1)
-one-passed id ids i p f j h e = lt-cases j i (λ g. p j g e) (λ g. f (ap (λ (n : ℕ). get_or ids n 0) (let z : i ≡ j = omega arith in z) ∙ e))

@@ -1,15 +1,13 @@
 -- The lent list of Key IDs and the lent block as they are made, one key after the other.
 use native.Mathlib.Omega.{arith}
 use native.Mathlib.Numerals.{add-one}
-use Prim.Native.Nat.{ℕ, ◌+◌, ◌-◌, ◌*◌, ◌≤◌, ◌<◌}
-use mathlib.Core.Path.{◌≡◌, refl, ap, ap₂, sym, ◌∙◌, subst}
+use Prim.Native.Nat.{ℕ, ◌+◌, ◌*◌, ◌≤◌, ◌<◌}
+use mathlib.Core.Path.{◌≡◌, refl, ap, sym, ◌∙◌, subst}
 use mathlib.Core.Bool.{true}
 use mathlib.Core.Logic.{◌⊎◌, inr}
 use mathlib.Core.List.{List, [], ◌∷◌, ◌++◌, append-nil, append_assoc}
 use lib.ListN.{length, take, drop, get_or, set, length-append, length-drop, length-set, length-map, get_or-map}
-use lib.Seq.{take_all, drop-set-lt, get_or-take, length-take-le, take_at, take-suc, take-suc-set}
-use borrow.Rule.Slice.PartMut.{mid_of, put_mid}
-use Rattle.lists.proofs.Slices.{copied-end}
+use lib.Seq.{take_all, get_or-take, length-take-le, take_at, take-suc, take-suc-set}
 use Rattle.state_keys.specs.Algorithms.{is_wrapping_size}
 use Rattle.state_keys.specs.Limits.{limits}
 use Rattle.lists.proofs.Cases.{lt-cases}
@@ -23,25 +21,7 @@ use Rattle.unwrap_lending.specs.inner.Lending.{named_keys, LendsNamed}
 use Rattle.unwrap_lending.proofs.HeldLaws.{get_d_any, held-within, held-formed, found-sized}
 
 -- ---- a count and the octets of an array put into a place
-pub put_is : (s o : List ℕ) (at c : ℕ) {y : List ℕ} → at < length s → length o ≡ key_octets →
-    y ≡ take (length o) o ++ drop (length o) (mid_of (at + 1) (length (set s at c) - (at + 1)) (set s at c)) →
-    put_mid (at + 1) (length (set s at c) - (at + 1)) (set s at c) y ≡ take at s ++ ((c ∷ o) ++ drop (at + place_octets) s)
-put_is s o at c h e q =
-    let n : at + 1 + length o ≡ at + place_octets = omega arith in
-    copied-end (set s at c) o (at + 1) q
-    ∙ ap₂ (λ (x y : List ℕ). x ++ (o ++ y)) (ap (λ (m : ℕ). take m (set s at c)) (add-one at) ∙ take-suc-set s at c h)
-    (ap (λ (m : ℕ). drop m (set s at c)) n ∙ drop-set-lt (at + place_octets) s at c (omega arith))
-    ∙ append_assoc (take at s) (c ∷ []) (o ++ drop (at + place_octets) s)
-
-pub put-room : (s : List ℕ) (at c : ℕ) → at + place_octets ≤ length s → (o : List ℕ) → length o ≡ key_octets →
-    length o ≤ length (mid_of (at + 1) (length (set s at c) - (at + 1)) (set s at c))
-put-room s at c h o e =
-    let n = length-set s at c in
-    let d = length-drop (at + 1) (set s at c) in
-    let t = length-take-le (length (set s at c) - (at + 1)) (drop (at + 1) (set s at c)) (omega arith) in
-    omega arith
-
-pub put-length : (s o : List ℕ) (at c : ℕ) → at + place_octets ≤ length s → length o ≡ key_octets →
+put-length : (s o : List ℕ) (at c : ℕ) → at + place_octets ≤ length s → length o ≡ key_octets →
     length (take at s ++ ((c ∷ o) ++ drop (at + place_octets) s)) ≡ length s
 put-length s o at c h e =
     let t = length-take-le at s (omega arith) in

@@ -9,9 +9,9 @@ ghost use Rattle.state_keys.specs.Limits.{limits};
 ghost use Rattle.state.specs.Held.{blank_key, held_formed, has};
 ghost use Rattle.state.specs.declared.held.HeldKey.{HeldKey};
 ghost use Rattle.unwrap_lending.specs.inner.Lending.{key_octets, place_octets, Lends, Rooms, LendsFirst, LendsNamed, Puts};
-ghost use Rattle.unwrap_lending.specs.inner.Named.{FirstAt, key_start, octets_named};
+ghost use Rattle.unwrap_lending.specs.inner.Named.{FindsFirst, key_start, octets_named};
 
-use state::held::Held;
+use state::held::{Held, HeldKey};
 use state_keys::kinds::WrappingKey;
 use state_keys::limits::HELD_KEYS;
 
@@ -22,64 +22,45 @@ pub const PLACE: usize = 1 + WrappingKey::KW_256;
 pub const BLOCK: usize = PLACE * HELD_KEYS;
 
 // Puts `key` into its place in `block`, which starts at `at`.
-fn put(key: WrappingKey, at: usize, block: &mut [u8])
+fn put(key: &WrappingKey, at: usize, block: &mut [u8])
     requires place_octets_in_bounds { at + place_octets ≤ length block.old }
-    requires count_le_key_octets { key.count ≤ key_octets }
-    ensures { Puts key at block.old block.new }
+    requires count_le_key_octets { key.now.count ≤ key_octets }
+    ensures { Puts key.now at block.old block.new }
 {
-    let octets = key.octets;
-    let start = at + 1;
     block[at] = key.count as u8;
-    octets::copying::copy(&octets, &mut block[start..]);
+    block[at + 1..at + PLACE].copy_from_slice(&key.octets);
 }
 
 // Writes the Key IDs of `held` to the start of `ids`, and its keys to the first places of `block`.
-pub fn lend_keys(held: Held, ids: &mut [u32], block: &mut [u8])
-    requires held_value { held_formed limits held ≡ true }
+pub fn lend_keys(held: &Held, ids: &mut [u32], block: &mut [u8])
+    requires held_value { held_formed limits held.now ≡ true }
     requires rooms { Rooms ids.old block.old }
-    ensures { LendsFirst held ids.new block.new }
+    ensures { LendsFirst held.now ids.new block.new }
 {
-    let n = held.count;
-    let mut i: usize = 0;
-    while i < n {
-        let k = held.keys[i];
-        let key = k.key;
+    let keys: &[HeldKey] = &held.keys;
+    for (i, k) in keys[..held.count].iter().enumerate() {
         ids[i] = k.id;
-        put(key, PLACE * i, block);
-        i += 1;
+        put(&k.key, PLACE * i, block);
     }
 }
 
 // Writes the keys that `reached` has to the first places of `block`, one for each of `ids`: the key with that Key ID, or one of no octets
 // if the list has none.
-pub fn lend_named(ids: &[u32], reached: Held, block: &mut [u8])
-    requires reached_value { held_formed limits reached ≡ true }
+pub fn lend_named(ids: &[u32], reached: &Held, block: &mut [u8])
+    requires reached_value { held_formed limits reached.now ≡ true }
     requires ids_len_bound { (length ids.now ≤ limits.held_keys) × (length block.old ≡ place_octets * limits.held_keys) }
-    ensures { LendsNamed reached ids.now block.new }
+    ensures { LendsNamed reached.now ids.now block.new }
 {
-    let n = ids.len();
-    let mut i: usize = 0;
-    while i < n {
-        let found = reached.find(ids[i]);
-        let key = found.key;
-        put(key, PLACE * i, block);
-        i += 1;
+    for (i, id) in ids.iter().enumerate() {
+        put(&reached.find(*id).key, PLACE * i, block);
     }
 }
 
-// Finds the first of `ids` that equals `id`. Answers `ids.len()` if there is none.
-fn place_of(id: u32, ids: &[u32]) -> usize
-    ensures { FirstAt id ids.now result }
+// Finds the first of `ids` that equals `id`.
+fn place_of(id: u32, ids: &[u32]) -> Option<usize>
+    ensures { FindsFirst id ids.now result }
 {
-    let n = ids.len();
-    let mut i: usize = 0;
-    while i < n {
-        if ids[i] == id {
-            return i;
-        }
-        i += 1;
-    }
-    n
+    ids.iter().position(|x| *x == id)
 }
 
 // Answers the value of the lent key at place `i`, a part of `block`.
@@ -91,7 +72,7 @@ pub fn value_at(i: usize, block: &[u8]) -> &[u8]
 {
     let at = PLACE * i;
     let start = at + 1;
-    let count = octets::wide(block[at]);
+    let count = usize::from(block[at]);
     &block[start..start + count]
 }
 
@@ -113,12 +94,10 @@ pub fn octets_named<'a>(
         (fresh.entry.ref_ptr.0, key_start id carried.now + fresh.entry.ref_ptr.1)
         (held.entry.ref_ptr.0, key_start id ids.now + held.entry.ref_ptr.1) }
 {
-    let i = place_of(id, carried);
-    if i < carried.len() {
+    if let Some(i) = place_of(id, carried) {
         return value_at(i, fresh);
     }
-    let j = place_of(id, ids);
-    if j < ids.len() {
+    if let Some(j) = place_of(id, ids) {
         return value_at(j, held);
     }
     &held[0..0]

@@ -1,5 +1,5 @@
 -- The key that a KWK ID names, among the keys that are lent in two blocks. Inner.
-use Rattle.std.specs.Prelude.{ℕ, suc, ◌+◌, ◌*◌, ◌≤◌, ◌<◌, ◌≡◌, cond, List, [], ◌∷◌, eqb, length, get_or}
+use Rattle.std.specs.Prelude.{ℕ, suc, ◌+◌, ◌*◌, ◌≤◌, ◌<◌, ◌≡◌, cond, List, [], ◌∷◌, eqb, length, get_or, Option, Some, None}
 use Rattle.state_keys.specs.Kinds.{value_of}
 use Rattle.state.specs.Held.{key_with, ids_of, has}
 use Rattle.state.specs.declared.held.HeldKey.{HeldKey}
@@ -10,6 +10,11 @@ pub record FirstAt (id : ℕ) (ids : List ℕ) (r : ℕ) : Type 0 where
   pub most : r ≤ length ids
   pub passed : (j : ℕ) → j < r → get_or ids j 0 ≡ id → ⊥
   pub here : r < length ids → get_or ids r 0 ≡ id
+
+-- the answer is the place of the first of `ids` that equals `id`, or `None` and none does
+abbrev pub FindsFirst : ℕ → List ℕ → Option ℕ → Type 0
+FindsFirst id ids (Some r) = FirstAt id ids r × (r < length ids)
+FindsFirst id ids None = FirstAt id ids (length ids)
 
 -- the same as a number
 unfoldable pub first_place : ℕ → List ℕ → ℕ
