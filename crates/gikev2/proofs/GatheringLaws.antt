@@ -15,8 +15,7 @@ use Rattle.rules_refusals.specs.Refusals.{applies, number3}
 use Rattle.rfc5282.specs.OuterFragment.{total_in}
 use Rattle.rfc5282.specs.Number10.{UnopenedFragment, OpensFragmentInto}
 use Rattle.rfc5282.proofs.FragmentLaws.{fragment-is}
-use Rattle.sealing.specs.declared.Unsealed.{Unsealed}
-use Rattle.sealing.specs.declared.Unsealed.TheVariants.{No, Count}
+use Rattle.std.specs.Prelude.{Option, None, Some}
 use Rattle.sealing.specs.Pieces.{PieceJudged}
 use Rattle.fragments.specs.declared.Case.TheVariants.{PassedOver}
 use Rattle.fragments.specs.declared.Names.{Names}
@@ -49,20 +48,20 @@ long-enough {octets = octets} u = (fragment-is octets u.fragment).body
 
 -- ---- number 10
 module _ {m : Member} (c : Collection) {now : ℕ} {octets room : List ℕ} (o : Octets octets) (u : PassedOutside m now octets)
-    {key : EncryptionKey} (i : IsSealingKey m.state.table key) (r : Unsealed)
+    {key : EncryptionKey} (i : IsSealingKey m.state.table key) (r : Option ℕ)
     (j : PieceJudged (encryption_octets_of key) octets room r) where
-  pub not_opened : r ≡ No → Given m c now octets room (refused_by answer.Unopened m c) room
+  pub not_opened : r ≡ None → Given m c now octets room (refused_by answer.Unopened m c) room
   not_opened e =
       let x : UnopenedFragment (encryption_octets_of key) octets room =
-      subst (λ (y : Unsealed). PieceJudged (encryption_octets_of key) octets room y) e j in
+      subst (λ (y : Option ℕ). PieceJudged (encryption_octets_of key) octets room y) e j in
       unopened m c now octets room o u (subst (λ (y : List ℕ). UnopenedFragment y octets room) (key-part m key i) x)
 
-  pub opened : (p : ℕ) → r ≡ Count p → PassedOpening m now key octets room p
+  pub opened : (p : ℕ) → r ≡ Some p → PassedOpening m now key octets room p
   opened p e =
       record {
         outside = u;
         key-is = i;
-        piece = subst (λ (y : Unsealed). PieceJudged (encryption_octets_of key) octets room y) e j;
+        piece = subst (λ (y : Option ℕ). PieceJudged (encryption_octets_of key) octets room y) e j;
       }
 
 -- ---- numbers 3 and 7, passed over

@@ -19,8 +19,7 @@ use Rattle.rfc5282.specs.Number10.{Unopened, OpensInto}
 use Rattle.rfc5282.proofs.LayoutLaws.{outer-relates, relates-outer}
 use Rattle.rfc5282.proofs.Number10Laws.{unopened-none}
 use Rattle.gcm.specs.Opening.{put_at_start}
-use Rattle.sealing.specs.declared.Unsealed.{Unsealed}
-use Rattle.sealing.specs.declared.Unsealed.TheVariants.{No, Count}
+use Rattle.std.specs.Prelude.{Option, None, Some}
 use Rattle.sealing.specs.Unsealing.{UnsealsInto}
 use Rattle.rules_outcome.specs.Answer.{First}
 use Rattle.rules_sealed.specs.SealingKey.{sealing_key, encryption_octets_of, sealing_part}
@@ -94,27 +93,27 @@ module _ (m : Member) (now : ℕ) (octets room : List ℕ) where
             (r.outcome, r.offset, refl)
 
   -- ---- from the answer of `open_frame`
-  module _ (part : List ℕ) (r : Unsealed) (after : List ℕ) (u : UnsealsInto part octets room r after) where
-    pub opened-fits : (n : ℕ) → r ≡ Count n → n ≤ length after
+  module _ (part : List ℕ) (r : Option ℕ) (after : List ℕ) (u : UnsealsInto part octets room r after) where
+    pub opened-fits : (n : ℕ) → r ≡ Some n → n ≤ length after
     opened-fits n e =
-        let w : UnsealsInto part octets room (Count n) after = subst (λ (x : Unsealed). UnsealsInto part octets room x after) e u in
+        let w : UnsealsInto part octets room (Some n) after = subst (λ (x : Option ℕ). UnsealsInto part octets room x after) e u in
         let l = ap length w.room-is ∙ length-append w.opened (drop (length w.opened) room) in
         omega (arith, l, w.count)
 
     module _ (o : Octets octets) (e : outer octets ≡ true)
         (e2 : applies (sealed_number2 limits m.state now (header_of octets)) ≡ false) (ep : part ≡ sealing_part limits m.state) where
-      pub not-opened-given : r ≡ No → (a : Answer) (next : Member) → a ≡ answer.Unopened → next ≡ m →
+      pub not-opened-given : r ≡ None → (a : Answer) (next : Member) → a ≡ answer.Unopened → next ≡ m →
           ReceivesSealed m now octets room a next after
       not-opened-given q a next ea em =
-          let w : UnsealsInto part octets room No after = subst (λ (x : Unsealed). UnsealsInto part octets room x after) q u in
+          let w : UnsealsInto part octets room None after = subst (λ (x : Option ℕ). UnsealsInto part octets room x after) q u in
           given-as a answer.Unopened next m after ea em
           (subst (λ (x : List ℕ). ReceivesSealed m now octets room answer.Unopened m x) (sym w.room-is)
           (unopened-refused o e e2 (subst (λ (x : List ℕ). Unopened x octets room) ep w.clause)))
 
-      pub opened-given : (n : ℕ) → r ≡ Count n → (lent : List ℕ) (a : Answer) (next : Member) →
+      pub opened-given : (n : ℕ) → r ≡ Some n → (lent : List ℕ) (a : Answer) (next : Member) →
           Receives m now lent (take (n - 0) (drop 0 after)) a next → ReceivesSealed m now octets room a next after
       opened-given n q lent a next v =
-          let w : UnsealsInto part octets room (Count n) after = subst (λ (x : Unsealed). UnsealsInto part octets room x after) q u in
+          let w : UnsealsInto part octets room (Some n) after = subst (λ (x : Option ℕ). UnsealsInto part octets room x after) q u in
           let x = w.opened in
           let h = subst (λ (y : List ℕ). OpensInto y octets room x) ep w.opening in
           let t : take (n - 0) (drop 0 after) ≡ x =

@@ -17,7 +17,6 @@ use ikev2_numbers::{
 };
 use octets::numbers::{be16_at, be32_at};
 use rfc5282::{FRAGMENT_NUMBER_AT, TOTAL_FRAGMENTS_AT};
-use sealing::Unsealed;
 use sealing::fragment::{is_fragment, piece_length, write_piece};
 use state_keys::kinds::EncryptionKey;
 
@@ -186,8 +185,8 @@ impl Member {
         let t = state.table;
         let key = sealing_key(t);
         match piece_length(key, frame, room.len()) {
-            Unsealed::No => self.refuse_fragment(Answer::Unopened, collection),
-            Unsealed::Count(p) => self.judge_piece(collection, key, frame, p, room, tick),
+            None => self.refuse_fragment(Answer::Unopened, collection),
+            Some(p) => self.judge_piece(collection, key, frame, p, room, tick),
         }
     }
 

@@ -17,7 +17,6 @@ use crate::call::{Answer, Received};
 use check_admission::number2::number_2;
 use ikev2_numbers::{EXCHANGE_AT, GSA_REKEY, REKEY_SPI};
 use octets::wide;
-use sealing::Unsealed;
 use state::State;
 use state_keys::kinds::{EncryptionKey, RekeyKey};
 use state_table::Table;
@@ -61,8 +60,8 @@ impl Member {
         let t = state.table;
         let key = sealing_key(t);
         match sealing::open_frame(key, frame, room) {
-            Unsealed::No => self.refuse(Answer::Unopened),
-            Unsealed::Count(n) => self.receive(&room[0..n], &frame[0..0], tick),
+            None => self.refuse(Answer::Unopened),
+            Some(n) => self.receive(&room[0..n], &frame[0..0], tick),
         }
     }
 

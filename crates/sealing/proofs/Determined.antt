@@ -9,38 +9,37 @@ use Rattle.rfc5282.specs.Number10.{OpensInto, OpensFragmentInto}
 use Rattle.rfc5282.proofs.OneLaws.{opens_one}
 use Rattle.rfc5282.proofs.PieceLaws.{piece-one}
 use Rattle.rfc5282.proofs.Number10Laws.{unopened-none, unopened-fragment-none}
-use Rattle.sealing.specs.declared.Unsealed.{Unsealed}
-use Rattle.sealing.specs.declared.Unsealed.TheVariants.{No, Count}
+use Rattle.std.specs.Prelude.{Option, None, Some}
 use Rattle.sealing.specs.Unsealing.{UnsealsInto}
 use Rattle.sealing.specs.Pieces.{PieceInto, PieceJudged}
 
 module _ (part s room : List ℕ) where
-  pub unsealed-is : (o : List ℕ) → OpensInto part s room o → (r : Unsealed) (after : List ℕ) → UnsealsInto part s room r after
-      → (r ≡ Count (length o)) × (after ≡ put_at_start o room)
-  unsealed-is o h No after a = absurd (unopened-none part s room a.clause o h)
-  unsealed-is o h (Count n) after a =
+  pub unsealed-is : (o : List ℕ) → OpensInto part s room o → (r : Option ℕ) (after : List ℕ) → UnsealsInto part s room r after
+      → (r ≡ Some (length o)) × (after ≡ put_at_start o room)
+  unsealed-is o h None after a = absurd (unopened-none part s room a.clause o h)
+  unsealed-is o h (Some n) after a =
       let e = opens_one part s a.opened o a.opening.opens h.opens in
-      (ap Count (sym a.count ∙ ap length e), a.room-is ∙ ap (λ (x : List ℕ). put_at_start x room) e)
+      (ap Some (sym a.count ∙ ap length e), a.room-is ∙ ap (λ (x : List ℕ). put_at_start x room) e)
 
-  pub unsealed-one : (q r : Unsealed) (x y : List ℕ) → UnsealsInto part s room q x → UnsealsInto part s room r y → (q ≡ r) × (x ≡ y)
-  unsealed-one No No x y a b = (refl, a.room-is ∙ sym b.room-is)
-  unsealed-one No (Count n) x y a b = absurd (unopened-none part s room a.clause b.opened b.opening)
-  unsealed-one (Count n) No x y a b = absurd (unopened-none part s room b.clause a.opened a.opening)
-  unsealed-one (Count m) (Count n) x y a b =
-      let e = unsealed-is a.opened a.opening (Count n) y b in
-      (ap Count (sym a.count) ∙ sym e.0, a.room-is ∙ sym e.1)
+  pub unsealed-one : (q r : Option ℕ) (x y : List ℕ) → UnsealsInto part s room q x → UnsealsInto part s room r y → (q ≡ r) × (x ≡ y)
+  unsealed-one None None x y a b = (refl, a.room-is ∙ sym b.room-is)
+  unsealed-one None (Some n) x y a b = absurd (unopened-none part s room a.clause b.opened b.opening)
+  unsealed-one (Some n) None x y a b = absurd (unopened-none part s room b.clause a.opened a.opening)
+  unsealed-one (Some m) (Some n) x y a b =
+      let e = unsealed-is a.opened a.opening (Some n) y b in
+      (ap Some (sym a.count) ∙ sym e.0, a.room-is ∙ sym e.1)
 
   -- ---- the piece
   into : (n : ℕ) (w : PieceInto part s room n) → OpensFragmentInto part s room w.of.piece
   into n w = record { opens = w.of.opens; holds = w.holds }
 
-  pub piece-counted : (x : List ℕ) → OpensFragmentInto part s room x → (r : Unsealed) → PieceJudged part s room r → r ≡ Count (length x)
-  piece-counted x h No u = absurd (unopened-fragment-none part s room u x h)
-  piece-counted x h (Count n) w =
-      ap Count (sym w.of.count ∙ ap length (piece-one part s w.of.piece x w.of.opens h.opens))
+  pub piece-counted : (x : List ℕ) → OpensFragmentInto part s room x → (r : Option ℕ) → PieceJudged part s room r → r ≡ Some (length x)
+  piece-counted x h None u = absurd (unopened-fragment-none part s room u x h)
+  piece-counted x h (Some n) w =
+      ap Some (sym w.of.count ∙ ap length (piece-one part s w.of.piece x w.of.opens h.opens))
 
-  pub piece-judged-one : (q r : Unsealed) → PieceJudged part s room q → PieceJudged part s room r → q ≡ r
-  piece-judged-one No No u v = refl
-  piece-judged-one No (Count n) u w = absurd (unopened-fragment-none part s room u w.of.piece (into n w))
-  piece-judged-one (Count n) r w v =
-      ap Count (sym w.of.count) ∙ sym (piece-counted w.of.piece (into n w) r v)
+  pub piece-judged-one : (q r : Option ℕ) → PieceJudged part s room q → PieceJudged part s room r → q ≡ r
+  piece-judged-one None None u v = refl
+  piece-judged-one None (Some n) u w = absurd (unopened-fragment-none part s room u w.of.piece (into n w))
+  piece-judged-one (Some n) r w v =
+      ap Some (sym w.of.count) ∙ sym (piece-counted w.of.piece (into n w) r v)

@@ -13,15 +13,14 @@ use Rattle.rfc5282.specs.inner.Opened.{opened_payloads}
 use Rattle.rfc5282.proofs.BodyLaws.{length-held}
 use Rattle.rfc5282.proofs.FragmentLaws.{Fragment}
 use Rattle.rfc5282.proofs.PieceLaws.{opens-fragment, fragment-long, piece_is, piece-one}
-use Rattle.sealing.specs.declared.Unsealed.{Unsealed}
-use Rattle.sealing.specs.declared.Unsealed.TheVariants.{No, Count}
+use Rattle.std.specs.Prelude.{Option, None, Some}
 use Rattle.sealing.specs.Pieces.{PieceOf, PieceJudged}
 use Rattle.sealing.specs.inner.Judging.{BodyJudged}
 
-pub piece-judged : (part s : List ℕ) → Octets s → Fragment s → (r : Unsealed) → BodyJudged 36 part s r
+pub piece-judged : (part s : List ℕ) → Octets s → Fragment s → (r : Option ℕ) → BodyJudged 36 part s r
     → (room : List ℕ) → 16384 ≤ length room → PieceJudged part s room r
-piece-judged part s o f No j room holds = j room
-piece-judged part s o f (Count p) j room holds =
+piece-judged part s o f None j room holds = j room
+piece-judged part s o f (Some p) j room holds =
     record {
       of = record {
         piece = opened_payloads 36 part s p;

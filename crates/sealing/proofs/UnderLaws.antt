@@ -23,6 +23,9 @@ use Rattle.rfc5282.proofs.PartLaws.{sizes-fit}
 use Rattle.rfc5282.proofs.OuterLaws.{Outer}
 use Rattle.rfc5282.proofs.OpenLaws.{opens, length-opened}
 use Rattle.rfc5282.proofs.Number10Laws.{over-padded, held-at}
+use Rattle.std.specs.Prelude.{Option, None, Some}
+use Rattle.std.specs.Option.{SomeIff}
+use Rattle.sealing.specs.inner.Judging.{BodyJudged, BodyBounds}
 use Rattle.sealing.specs.Unsealing.{FrameWritten}
 use Rattle.sealing.proofs.CopyLaws.{part-size}
 
@@ -92,15 +95,26 @@ module _ (at : ℕ) (part s nonce : List ℕ) (least : at + 8 + 1 + 16 ≤ lengt
         (let q : length s - 16 - (at + 8) ≡ length (drop (at + 8) s) - 16 = omega (arith, length-drop (at + 8) s) in q)
         ∙ ap (oct found) before)
 
-    pub over-long : length s - (at + 8 + 1 + 16) < pad → (room : List ℕ) → UnopenedAt at part s room
+    over-long : length s - (at + 8 + 1 + 16) < pad → (room : List ℕ) → UnopenedAt at part s room
     over-long l room =
         over-padded at part s room found is_plain enough (omega (arith, l, pad-is))
 
-    pub held : pad ≤ length s - (at + 8 + 1 + 16) → BodyHolds at part s (length s - (at + 8 + 1 + 16) - pad)
+    held : pad ≤ length s - (at + 8 + 1 + 16) → BodyHolds at part s (length s - (at + 8 + 1 + 16) - pad)
     held l =
         subst (BodyHolds at part s)
         (let q : length s - (at + 25) - oct found (length s - (at + 25)) ≡ length s - least_at at - pad = omega (arith, pad-is) in q)
         (held-at at part s [] found is_plain enough (omega (arith, pad-is, l)))
+
+    -- what is left of the octets once those of the padding are taken off
+    pub unpadded : (r : Option ℕ) → SomeIff r (pad ≤ length s - (at + 8 + 1 + 16)) (length s - (at + 8 + 1 + 16) - pad) → BodyJudged at part s r
+    unpadded None f = over-long (omega arith)
+    unpadded (Some p) f = subst (BodyHolds at part s) (sym f.1) (held f.0)
+
+-- what is left lies within the body
+pub unpadded-bounds : (at pad : ℕ) (s : List ℕ) → at + 8 + 1 + 16 ≤ length s → (r : Option ℕ)
+    → SomeIff r (pad ≤ length s - (at + 8 + 1 + 16)) (length s - (at + 8 + 1 + 16) - pad) → BodyBounds at s r
+unpadded-bounds at pad s least None f = tt
+unpadded-bounds at pad s least (Some p) f = omega arith
 
 -- ---- a frame written
 pub some_written : (part s room : List ℕ) → Octets s → Outer s → (p : ℕ) → BodyHolds 32 part s p → 16384 ≤ length room → {after : List ℕ}

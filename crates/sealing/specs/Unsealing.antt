@@ -1,10 +1,8 @@
 -- What opening a sealed frame into lent room answers and leaves there. Document 02, T-05: "Outer 1, 2 and 10 leave the room
 -- for plain octets as lent; else it then starts with the opened frame .., the rest as lent."
-use Rattle.std.specs.Prelude.{◌≡◌, ℕ, List, length}
+use Rattle.std.specs.Prelude.{◌≡◌, ℕ, List, length, Option, None, Some}
 use Rattle.gcm.specs.Opening.{put_at_start}
 use Rattle.rfc5282.specs.Number10.{Unopened, OpensInto}
-use Rattle.sealing.specs.declared.Unsealed.{Unsealed}
-use Rattle.sealing.specs.declared.Unsealed.TheVariants.{No, Count}
 
 -- an opened frame of `n` octets seals to `s`, and it was written
 pub record FrameWritten (part s room : List ℕ) (n : ℕ) (after : List ℕ) : Type 0 where
@@ -18,6 +16,6 @@ pub record FrameNotOpened (part s room after : List ℕ) : Type 0 where
   pub clause : Unopened part s room
   pub room-is : after ≡ room
 
-abbrev pub UnsealsInto : List ℕ → List ℕ → List ℕ → Unsealed → List ℕ → Type 0
-UnsealsInto part s room No after = FrameNotOpened part s room after
-UnsealsInto part s room (Count n) after = FrameWritten part s room n after
+abbrev pub UnsealsInto : List ℕ → List ℕ → List ℕ → Option ℕ → List ℕ → Type 0
+UnsealsInto part s room None after = FrameNotOpened part s room after
+UnsealsInto part s room (Some n) after = FrameWritten part s room n after

@@ -9,7 +9,6 @@ ghost use Rattle.rfc5282.specs.Keys.{aes_key_of, nonce_for};
 ghost use Rattle.rfc5282.specs.Outer.{alone};
 ghost use Rattle.sealing.specs.inner.Judging.{BodyBounds, BodyJudged};
 
-use crate::Unsealed;
 use aes::{SCHEDULE_WORDS, TABLE_WORDS};
 use gcm::stream::gctr_at;
 use gcm::verify_tag;
@@ -65,7 +64,7 @@ pub(crate) fn judge_body(
     nonce: &[u8],
     frame: &[u8],
     at: usize,
-) -> Unsealed
+) -> Option<usize>
     requires tables_value { (tables.now ≡ encipher_tables) × Expanded schedule.now }
     requires nonce_len { (length nonce.now ≡ nonce_octets) × (at ≤ length frame.now) × (length frame.now ≤ most_octets) }
     ensures { BodyBounds at frame.now result × ((part : List ℕ) →
@@ -76,16 +75,13 @@ pub(crate) fn judge_body(
     let text = at + IV;
     let least = text + 1 + TAG;
     if n < least {
-        return Unsealed::No;
+        return None;
     }
-    if verify_tag(tables, schedule, nonce, &frame[0..at], &frame[text..n]) {
-        let before = n - least;
-        let end = n - TAG;
-        let pad = wide(gctr_at(tables, schedule, nonce, &frame[text..end], before));
-        if before < pad {
-            return Unsealed::No;
-        }
-        return Unsealed::Count(before - pad);
+    if !verify_tag(tables, schedule, nonce, &frame[0..at], &frame[text..n]) {
+        return None;
     }
-    Unsealed::No
+    let before = n - least;
+    let end = n - TAG;
+    let pad = wide(gctr_at(tables, schedule, nonce, &frame[text..end], before));
+    before.checked_sub(pad)
 }

@@ -10,7 +10,6 @@ ghost use Rattle.rfc5282.specs.OuterFragment.{outer_fragment};
 ghost use Rattle.sealing.specs.Pieces.{PieceOf, PieceJudged};
 ghost use Rattle.sealing.specs.inner.Judging.{BodyJudged};
 
-use crate::Unsealed;
 use crate::body::{is_alone, judge_body, make_nonce};
 use gcm::stream::gctr_in;
 use ikev2_numbers::MOST_OCTETS;
@@ -22,27 +21,27 @@ use state_keys::kinds::EncryptionKey;
 pub fn is_fragment(frame: &[u8]) -> bool
     ensures { result ≡ outer_fragment frame.now }
 {
-    if is_alone(frame, FRAGMENT as u8) {
-        if frame.len() < FRAGMENT_BODY_AT {
-            return false;
-        }
-        let number = be16_at(frame, FRAGMENT_NUMBER_AT);
-        if number < 1 {
-            return false;
-        }
-        return number <= be16_at(frame, TOTAL_FRAGMENTS_AT);
+    if !is_alone(frame, FRAGMENT as u8) {
+        return false;
     }
-    false
+    if frame.len() < FRAGMENT_BODY_AT {
+        return false;
+    }
+    let number = be16_at(frame, FRAGMENT_NUMBER_AT);
+    if number < 1 {
+        return false;
+    }
+    number <= be16_at(frame, TOTAL_FRAGMENTS_AT)
 }
 
 // Counts the octets of the piece in `frame` under the octets of an encryption part.
-fn count_piece(part: &[u8], frame: &[u8]) -> Unsealed
+fn count_piece(part: &[u8], frame: &[u8]) -> Option<usize>
     requires salt_octets_in_bounds { (salt_octets ≤ length part.now) × T (is_key (length part.now - salt_octets)) }
     requires frame_value { outer_fragment frame.now ≡ true }
     ensures { BodyJudged fragment_body_at part.now frame.now result }
 {
     if frame.len() < FRAGMENT_BODY_AT + IV {
-        return Unsealed::No;
+        return None;
     }
     let k = part.len() - SALT;
     let tables = aes::tables();
@@ -53,14 +52,14 @@ fn count_piece(part: &[u8], frame: &[u8]) -> Unsealed
 
 // Judges `frame`, which `is_fragment`, under the encryption part of the live Rekey SA's keying octets, for a room of this many octets: the
 // octets of its piece, or not. Nothing is written.
-pub fn piece_length(key: EncryptionKey, frame: &[u8], room: usize) -> Unsealed
+pub fn piece_length(key: EncryptionKey, frame: &[u8], room: usize) -> Option<usize>
     requires count_value { is_encryption_size key.count ≡ true }
     requires frame_value { outer_fragment frame.now ≡ true }
     ensures { (lent : List ℕ) → length lent ≡ room →
         PieceJudged (take key.count key.octets) frame.now lent result }
 {
     if room < MOST_OCTETS {
-        return Unsealed::No;
+        return None;
     }
     let o = key.octets;
     let n = key.count;

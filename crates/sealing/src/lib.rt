@@ -24,13 +24,6 @@ use rfc5282::{CIPHERTEXT_AT, ENCRYPTED, ENCRYPTED_BODY_AT, SALT};
 use state_keys::kinds::EncryptionKey;
 use writing::write_opened;
 
-// Whether a sealed frame was opened: the octets of the opened frame, or not.
-#[derive(Clone, Copy)]
-pub enum Unsealed {
-    No,
-    Count(usize),
-}
-
 // Whether `frame` is a header and one Encrypted payload, and nothing else.
 pub fn is_outer(frame: &[u8]) -> bool
     ensures { result ≡ outer frame.now }
@@ -38,14 +31,15 @@ pub fn is_outer(frame: &[u8]) -> bool
     is_alone(frame, ENCRYPTED as u8)
 }
 
-// Opens `frame` over an expanded key. `room` is written last.
+// Opens `frame` over an expanded key. `room` is written last. Answers how many octets the opened frame has, or `None` where `frame` does not
+// open.
 fn open_under(
     tables: &[u32; TABLE_WORDS],
     schedule: &[u32; SCHEDULE_WORDS],
     nonce: &[u8],
     frame: &[u8],
     room: &mut [u8],
-) -> Unsealed
+) -> Option<usize>
     requires tables_value { (tables.now ≡ encipher_tables) × Expanded schedule.now }
     requires nonce_len { (length nonce.now ≡ nonce_octets) × (outer frame.now ≡ true) }
     ensures { (part : List ℕ) → nonce.now ≡ nonce_for encrypted_body_at part frame.now →
@@ -53,26 +47,21 @@ fn open_under(
         UnsealsInto part frame.now room.old result room.new }
 {
     if room.len() < MOST_OCTETS {
-        return Unsealed::No;
+        return None;
     }
-    match judge_body(tables, schedule, nonce, frame, ENCRYPTED_BODY_AT) {
-        Unsealed::No => Unsealed::No,
-        Unsealed::Count(p) => {
-            write_opened(tables, schedule, nonce, frame, p, room);
-            let count = HEADER + p;
-            Unsealed::Count(count)
-        }
-    }
+    let p = judge_body(tables, schedule, nonce, frame, ENCRYPTED_BODY_AT)?;
+    write_opened(tables, schedule, nonce, frame, p, room);
+    Some(HEADER + p)
 }
 
 // Opens `frame` under the octets of an encryption part.
-fn open_part(part: &[u8], frame: &[u8], room: &mut [u8]) -> Unsealed
+fn open_part(part: &[u8], frame: &[u8], room: &mut [u8]) -> Option<usize>
     requires salt_octets_in_bounds { (salt_octets ≤ length part.now) × T (is_key (length part.now - salt_octets)) }
     requires frame_value { outer frame.now ≡ true }
     ensures { UnsealsInto part.now frame.now room.old result room.new }
 {
     if frame.len() < CIPHERTEXT_AT {
-        return Unsealed::No;
+        return None;
     }
     let k = part.len() - SALT;
     let tables = aes::tables();
@@ -81,8 +70,8 @@ fn open_part(part: &[u8], frame: &[u8], room: &mut [u8]) -> Unsealed
     open_under(&tables, &schedule.words, &nonce, frame, room)
 }
 
-// Opens `frame`, which `is_outer`, under the encryption part of the live Rekey SA's keying octets, at the start of `room`.
-pub fn open_frame(key: EncryptionKey, frame: &[u8], room: &mut [u8]) -> Unsealed
+// Opens `frame`, which `is_outer`, as `open_under` does, under the encryption part of the live Rekey SA's keying octets, at the start of `room`.
+pub fn open_frame(key: EncryptionKey, frame: &[u8], room: &mut [u8]) -> Option<usize>
     requires count_value { is_encryption_size key.count ≡ true }
     requires frame_value { outer frame.now ≡ true }
     ensures { UnsealsInto (take key.count key.octets) frame.now room.old result room.new }

@@ -1,9 +1,11 @@
-use mathlib.Core.Path.{refl, subst}
+use mathlib.Core.Path.{refl, sym, subst}
+use Prim.Native.Nat.{ℕ}
+use Rattle.std.specs.Prelude.{Option}
 use native.Mathlib.Omega.{arith}
 use Rattle.octets.specs.Octets.{Octets}
 use Rattle.rfc5282.specs.Number10.{small-room}
 use Rattle.rfc5282.proofs.OuterLaws.{outer-is}
-use Rattle.sealing.specs.inner.Judging.{BodyJudged, BodyBounds}
+use Rattle.sealing.specs.Unsealing.{UnsealsInto}
 use Rattle.sealing.proofs.UnderLaws.{some_written}
 use Rattle.sealing.proofs.open_under.Goals as goal
 
@@ -24,32 +26,30 @@ judge_body-requires c =
 pub write_opened-requires : goal.write_opened-requires
 write_opened-requires c =
     let f = outer-is c.args.frame.now c.requires.nonce_len.1 in
-    let b = subst (BodyBounds 32 c.args.frame.now) c.in-Count.is c.judge_body.ensures.0 in
+    let b = c.in_ok-p.ensures.0 in
     record {
       tables_value = c.requires.tables_value;
       nonce_len = (c.requires.nonce_len.0, b, f.most, omega (arith, b, f.most, c.if-room-lt-MOST_OCTETS.false));
     }
 
-pub overflow_add-count : goal.overflow_add-count
-overflow_add-count c =
+pub overflow_add-result : goal.overflow_add-result
+overflow_add-result c =
     let f = outer-is c.args.frame.now c.requires.nonce_len.1 in
-    let b = subst (BodyBounds 32 c.args.frame.now) c.in-Count.is c.judge_body.ensures.0 in
+    let b = c.in_ok-p.ensures.0 in
     omega (arith, b, f.most)
 
-pub returns-in-No : goal.returns-in-No
-returns-in-No c =
+pub returns-in_err-p : goal.returns-in_err-p
+returns-in_err-p c =
     λ part en e.
     let a = c.args in
-    record {
-      clause = subst (BodyJudged 32 part a.frame.now) c.in-No.is (c.judge_body.ensures.1 part en e) a.room.now;
-      room-is = refl;
-    }
+    subst (λ (r : Option ℕ). UnsealsInto part a.frame.now a.room.now r a.room.now) (sym c.from_residual.ensures)
+    (record { clause = c.in_err-p.ensures.1 part en e a.room.now; room-is = refl })
 
-pub returns-in-Count : goal.returns-in-Count
-returns-in-Count c =
+pub returns : goal.returns
+returns c =
     λ part en e.
     let a = c.args in
     let o : Octets a.frame.now = λ i. (c.shared_slice_known-2-1.given i).fits in
     some_written part a.frame.now a.room.now o (outer-is a.frame.now c.requires.nonce_len.1) _
-    (subst (BodyJudged 32 part a.frame.now) c.in-Count.is (c.judge_body.ensures.1 part en e))
+    (c.in_ok-p.ensures.1 part en e)
     (omega (arith, c.if-room-lt-MOST_OCTETS.false)) (c.write_opened.ensures part en e)

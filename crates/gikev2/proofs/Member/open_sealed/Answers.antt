@@ -20,11 +20,11 @@ slice_bounds-receive-end c =
     let a = c.args in
     let k = c.sealing_key-key.result in
     let l = opened-fits a.self a.tick a.frame.now a.room.now (encryption_octets_of k) c.open_frame.result
-    c.open_frame.new.room c.open_frame.ensures c.in-Count.n c.in-Count.is in
+    c.open_frame.new.room c.open_frame.ensures c.in-Some.n c.in-Some.is in
     omega (arith, l)
 
-pub returns-in-No : goal.returns-in-No
-returns-in-No c =
+pub returns-in-None : goal.returns-in-None
+returns-in-None c =
     let a = c.args in
     let k = c.sealing_key-key in
     let o : Octets a.frame.now = λ i. (c.shared_slice_known-1.given i).fits in
@@ -32,14 +32,14 @@ returns-in-No c =
     let e = c.refuse.ensures in
     not-opened-given a.self a.tick a.frame.now a.room.now (encryption_octets_of k.result) c.open_frame.result
     c.open_frame.new.room c.open_frame.ensures o c.requires.0 c.requires.1 (key-part a.self k.result k.ensures)
-    c.in-No.is x.answer x.member e.0 e.1
+    c.in-None.is x.answer x.member e.0 e.1
 
-pub returns-in-Count : goal.returns-in-Count
-returns-in-Count c =
+pub returns-in-Some : goal.returns-in-Some
+returns-in-Some c =
     let a = c.args in
     let k = c.sealing_key-key in
     let o : Octets a.frame.now = λ i. (c.shared_slice_known-1.given i).fits in
     let x = c.receive.result in
     opened-given a.self a.tick a.frame.now a.room.now (encryption_octets_of k.result) c.open_frame.result
     c.open_frame.new.room c.open_frame.ensures o c.requires.0 c.requires.1 (key-part a.self k.result k.ensures)
-    c.in-Count.n c.in-Count.is _ x.answer x.member c.receive.ensures
+    c.in-Some.n c.in-Some.is _ x.answer x.member c.receive.ensures
