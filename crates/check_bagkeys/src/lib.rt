@@ -49,6 +49,7 @@ pub struct BagFacts {
 
 // The facts of a KD body: those of its bags, and where the attributes of the first Member Key Bag stand in it. The stretch is empty if
 // there is no such bag. If there are several, number 4 applies.
+// Kept as a stretch and not as an `Option`: an empty one cuts attributes with nothing in them, which are gone through like any other.
 #[derive(Clone, Copy)]
 pub struct KdFacts {
     pub bags: BagFacts,
@@ -96,6 +97,7 @@ fn of_member(k: KeyFacts) -> BagFacts
 }
 
 // Merges the facts of two groups of bags: adds the counts and keeps a fault of either.
+// Kept beside that of policies: a trait for both would still say field by field what is added and what is kept.
 fn merge(a: BagFacts, b: BagFacts) -> BagFacts
     requires { (a.members + b.members < 18446744073709551616) × (a.wraps + b.wraps < 18446744073709551616)
         × (a.fresh + b.fresh < 18446744073709551616) }
@@ -153,6 +155,7 @@ fn of_bag(fresh: bool, first: usize, a: &[u8]) -> BagFacts
 
 // Answers where the attributes of the first Member Key Bag stand, once the bag with first octet `first` is read: `here` if it is a Member
 // Key Bag and none is known, else `known`. No bag ends at octet 0, so an end of 0 means that none is known.
+// Kept beside `check_payloads::kinds::first`: that one asks for a count, and this walk knows of the bag by its place alone.
 fn first_member(first: usize, here: Stretch, known: Stretch) -> Stretch
     ensures { result ≡ first_member first here known }
 {
@@ -171,6 +174,7 @@ pub fn kd_facts(fresh: bool, kd: &[u8]) -> KdFacts
     let mut f = no_bags();
     let mut found = Stretch { start: 0, end: 0 };
     let mut at = 0;
+    // Kept as a `while`: the place moves by what each bag says, and where the Member Key Bag stands is an answer.
     while at < kd.len() {
         let p = wire_readers::bag::bag_parts(&kd[at..]);
         let start = at + p.body;

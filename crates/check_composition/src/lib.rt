@@ -154,6 +154,7 @@ pub fn policy_facts(authentication: bool, gsa: &[u8]) -> PolicyFacts
 {
     let mut f = no_policies();
     let mut at = 0;
+    // Kept as a `while`: the place moves by what each policy says, and there is no index to count.
     while at < gsa.len() {
         let p = wire_readers::policy::policy_parts(&gsa[at..]);
         let start = at + p.body;

@@ -10,7 +10,7 @@ use wire_attributes::tables::{Meaning, Place};
 use wire_readers::values::next_attribute;
 
 // How many numbers the attributes of one meaning give, and the greatest of them, or 0 if there is none.
-#[derive(Clone, Copy)]
+#[derive(Clone, Copy, Default)]
 pub struct Numbers {
     pub count: usize,
     pub greatest: u32,
@@ -25,11 +25,7 @@ fn number_of(m: Meaning, v: &[u8]) -> u32
         Meaning::InitialMessageId => be32_at(v, 0),
         Meaning::DeactivationDelay => be16_at(v, 0) as u32,
         Meaning::KeyLifetime => be32_at(v, 0),
-        Meaning::Skipped => 0,
-        Meaning::KeyLength => 0,
-        Meaning::SaKey => 0,
-        Meaning::WrapKey => 0,
-        Meaning::FreshKey => 0,
+        _ => 0,
     }
 }
 
@@ -50,10 +46,7 @@ pub fn numbers_of(m: Meaning, place: Place, a: &[u8]) -> Numbers
     requires { (is_number m ≡ true) × (is_whole (attributes place 0 a.now) ≡ true) }
     ensures { (result ≡ numbers_by m (values_in m place a.now)) × (result.greatest ≤ most m) }
 {
-    let mut n = Numbers {
-        count: 0,
-        greatest: 0,
-    };
+    let mut n = Numbers::default();
     let mut at = 0;
     while let Some(x) = next_attribute(m, place, a, at) {
         n = with_number(m, n, attribute_value(a, x.start));

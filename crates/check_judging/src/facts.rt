@@ -6,7 +6,7 @@ ghost use Rattle.wire_readers.specs.inner.Values.{is_whole};
 ghost use Rattle.rules_refusals.specs.Contents.{row_of};
 ghost use Rattle.check_judging.specs.inner.Facts.{frame_facts_of};
 
-use check_bagkeys::{BagFacts, kd_facts};
+use check_bagkeys::{BagFacts, KdFacts, kd_facts};
 use check_composition::{PolicyFacts, policy_facts};
 use check_payloads::{PayloadFacts, payload_facts};
 use wire_frames::exchanges::Exchange;
@@ -29,17 +29,11 @@ pub fn facts_of(profile: bool, row: Exchange, s: &[u8]) -> Facts
     ensures { result ≡ frame_facts_of profile row s.now }
 {
     let payloads = payload_facts(s);
-    let g = payloads.gsa;
-    let a = g.start;
-    let e = g.end;
-    let policies = policy_facts(row.authentication, &s[a..e]);
-    let k = payloads.kd;
-    let i = k.start;
-    let j = k.end;
+    let gsa = payloads.gsa;
+    let policies = policy_facts(row.authentication, &s[gsa.start..gsa.end]);
+    let kd = payloads.kd;
     let fresh = profile & row.reads_fresh_keys;
-    let kd = kd_facts(fresh, &s[i..j]);
-    let bags = kd.bags;
-    let member_bag = kd.member_bag;
+    let KdFacts { bags, member_bag } = kd_facts(fresh, &s[kd.start..kd.end]);
     Facts {
         payloads,
         policies,

@@ -23,13 +23,14 @@ pub fn count_names(protocol: usize, spi: &[u8], s: &[u8]) -> usize
 {
     let mut n = 0;
     let mut at = 0;
+    // Kept as a `while`, here and below: the place moves by what each head says, and there is no index to count.
     while at < s.len() {
         let p = wire_readers::policy::head_parts(&s[at..]);
         let start = at + POLICY_HEAD;
         let end = at + p.body;
         let next = at + p.end;
         if is_named(protocol, spi, p.first, &s[start..end]) {
-            n = n + 1;
+            n += 1;
         }
         at = next;
     }
@@ -58,7 +59,7 @@ pub fn any_unpaired(s: &[u8], t: &[u8]) -> bool
         if is_unpaired(p.first, &s[start..end], t) {
             return true;
         }
-        at = at + p.end;
+        at += p.end;
     }
     false
 }

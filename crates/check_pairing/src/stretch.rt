@@ -15,6 +15,7 @@ pub fn bag_stretch(kd: &[u8], protocol: usize, spi: &[u8]) -> Stretch
     ensures { result ≡ bag_stretch protocol spi.now kd.now }
 {
     let mut at = 0;
+    // Kept as a `while`: the place moves by what each bag says, and that place is the answer.
     while at < kd.len() {
         let p = wire_readers::bag::bag_parts(&kd[at..]);
         let name = at + POLICY_HEAD;

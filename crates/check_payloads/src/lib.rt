@@ -23,7 +23,8 @@ pub struct PayloadFacts {
     pub gsas: usize,
     pub kds: usize,
     pub deletes: usize,
-    // where the body of the first of each stands in the frame; an empty stretch if there is none
+    // where the body of the first of each stands in the frame; an empty stretch if there is none.
+    // Kept as a stretch and not as an `Option`: an empty one cuts a body with nothing in it, which is gone through like any other.
     pub gsa: Stretch,
     pub kd: Stretch,
     pub delete: Stretch,
@@ -96,6 +97,7 @@ pub fn payload_facts(s: &[u8]) -> PayloadFacts
     let mut b = no_payloads();
     let mut kind = octets::wide(s[FIRST_PAYLOAD_AT]);
     let mut at = HEADER;
+    // Kept as a `while`: where the next payload stands, and its type, are told by the one before it.
     while kind != NO_PAYLOAD {
         let p = payload_parts(kind, &s[at..]);
         let start = at + PAYLOAD_HEADER;

@@ -15,7 +15,7 @@ use wire_readers::one_if;
 
 // Counts of transforms: all (`count`), those fit for encryption, key wrap, sequence numbers and the controller's authentication, and those
 // with several Key Lengths (`doubled`).
-#[derive(Clone, Copy)]
+#[derive(Clone, Copy, Default)]
 pub struct SuiteCounts {
     pub count: usize,
     pub encryption: usize,
@@ -84,14 +84,7 @@ impl SuiteCounts {
     pub fn none() -> SuiteCounts
         ensures { result ≡ suite_of [] }
     {
-        SuiteCounts {
-            count: 0,
-            encryption: 0,
-            wrapping: 0,
-            sequence: 0,
-            authentication: 0,
-            doubled: 0,
-        }
+        SuiteCounts::default()
     }
 
     // Adds the counts `x` of one transform.

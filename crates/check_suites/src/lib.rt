@@ -22,6 +22,7 @@ pub fn suite(t: &[u8]) -> SuiteCounts
 {
     let mut s = SuiteCounts::none();
     let mut at = 0;
+    // Kept as a loop, here and below: each transform says where it ends and whether one follows.
     loop {
         let p = wire_readers::body::transform_parts(&t[at..]);
         let a = at + TRANSFORM_HEAD;

@@ -25,6 +25,7 @@ pub struct Piece {
 
 // A collection: a value that the caller keeps beside the member and hands in with the next fragment. Pieces stand in rising order of their
 // numbers, their octets one behind the other. `version`, `flags` and `next` are those of fragment 1, and 0 while it is missing.
+// Kept as arrays with a count beside them: the value has a fixed size, since there is no heap. Walks take the pieces that count as a slice.
 #[derive(Clone, Copy)]
 pub struct Collection {
     pub spis: [u8; REKEY_SPI],

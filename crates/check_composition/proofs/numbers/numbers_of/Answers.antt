@@ -1,10 +1,14 @@
-use Rattle.std.proofs.Common.{ap, ◌∙◌}
+use Rattle.std.proofs.Common.{◌≡◌, rules, ap, sym, subst, ◌∙◌}
 use Rattle.check_composition.specs.inner.Numbers.{with_number}
-use Rattle.check_composition.proofs.NumberLaws.{numbers-start, numbers-end, numbers-next}
+use Rattle.check_composition.specs.declared.numbers.Numbers.{Numbers}
+use Rattle.check_composition.proofs.NumberLaws.{no_numbers, NumberWalk, numbers-start, numbers-end, numbers-next}
 use Rattle.check_composition.proofs.numbers.numbers_of.Goals as goal
 
 pub loop-x-init : goal.loop-x-init
-loop-x-init c = (c.requires.0, numbers-start _ _ _ c.requires.1)
+loop-x-init c =
+    let a = c.args in
+    let none : c.default-n.result ≡ no_numbers a.m = search rules in
+    (c.requires.0, subst (λ (n : Numbers). NumberWalk a.m a.place a.a.now n 0) (sym none) (numbers-start a.m a.place a.a.now c.requires.1))
 
 pub loop-x-preserved : goal.loop-x-preserved
 loop-x-preserved c =

@@ -1,7 +1,7 @@
-use mathlib.Core.Path.{refl}
+use Rattle.std.proofs.Common.{rules}
 use Rattle.lists.specs.Lists.{count}
 use Rattle.check_suites.proofs.counts.SuiteCounts.none.Goals as goal
 
 pub returns : goal.returns
 unfolding count
-returns c = refl
+returns c = search rules
