@@ -1,4 +1,5 @@
 -- The held list after acceptance, by the copies of the Rekey SA's key that open.
+use Rattle.std.specs.Prelude.{Result, Ok}
 use Prim.Native.Nat.{ℕ, ◌*◌, ◌<◌}
 use mathlib.Core.Path.{◌≡◌, refl, ap, sym, subst}
 use mathlib.Core.Bool.{Bool, true, false, false≢true}
@@ -27,8 +28,7 @@ use Rattle.rules_outcome.proofs.RunsLists.{some-passes}
 use Rattle.rules_outcome.proofs.Enters.{each-enters}
 use Rattle.unwrap_sas.specs.inner.Keyed.{KeysOf, KeyedBy}
 use Rattle.unwrap_sas.specs.declared.joining.Keyed.{Keyed}
-use Rattle.unwrap_sas.specs.declared.joining.SasFound.{SasFound}
-use Rattle.unwrap_sas.specs.declared.joining.SasFound.TheVariants as found
+use Rattle.unwrap_sas.specs.declared.joining.SasFault.{SasFault}
 use Rattle.unwrap_lending.specs.inner.Lending.{place_octets, named_keys, Lends, LendsHeld, LendsNamed, LendsTwo}
 use Rattle.unwrap_lending.proofs.HeldLaws.{get_d_any, held-within}
 use Rattle.unwrap_copies.specs.inner.Openers.{OpenersAre}
@@ -69,9 +69,9 @@ module _ (roots : List Root) (entries : List WrapKey) (size : ℕ) (f : Frame) w
       )
 
   -- where each SA has its key, each has a copy that opens
-  pub each_opens : (now : ℕ) (r : Keyed) → KeyedBy roots entries size f now r → r.found ≡ found.Keys → EachHasCopy roots entries size f
+  pub each_opens : (now : ℕ) (r : Keyed) → KeyedBy roots entries size f now r → r.found ≡ Ok tt → EachHasCopy roots entries size f
   each_opens now r k e a i =
-      let q = subst (λ (x : SasFound). KeysOf roots entries size f (announced f) now x r.sas r.count) e k.keys in
+      let q = subst (λ (x : Result (Unit {0}) SasFault). KeysOf roots entries size f (announced f) now x r.sas r.count) e k.keys in
       let o = each-enters roots entries size now f (announced f) (take r.count r.sas) q.1 a i in
       (o.octets, o.key.opens)
 

@@ -1,4 +1,5 @@
 -- What the keys of a frame that numbers 2 to 7 let pass make of it: number 8, number 9, or the state after acceptance.
+use Rattle.std.specs.Prelude.{Result, Ok, Err}
 use native.Mathlib.Omega.{arith}
 use Prim.Native.Nat.{ℕ, ◌+◌, ◌≤◌}
 use mathlib.Core.Path.{◌≡◌, refl, ap, sym, subst, ◌∙◌}
@@ -39,8 +40,8 @@ use Rattle.apply.specs.inner.Following.{Follows}
 use Rattle.check_judging.specs.declared.facts.Facts.{Facts}
 use Rattle.unwrap_sas.specs.inner.Keyed.{new_sas, SomeConflict, NoConflict, SomeUnopened, KeysOf, KeyedBy}
 use Rattle.unwrap_sas.specs.declared.joining.Keyed.{Keyed}
-use Rattle.unwrap_sas.specs.declared.joining.SasFound.{SasFound}
-use Rattle.unwrap_sas.specs.declared.joining.SasFound.TheVariants as found
+use Rattle.unwrap_sas.specs.declared.joining.SasFault.{SasFault}
+use Rattle.unwrap_sas.specs.declared.joining.SasFault.TheVariants.{KeyConflict, KeyMissing}
 use Rattle.receive.specs.inner.Passing.{Passed, EachHasCopy, HeldTold}
 use Rattle.receive.proofs.ClauseLaws.{few-sas, few-announced}
 
@@ -143,51 +144,51 @@ pub record KeysKnown (m : State) (now : ℕ) (lent s : List ℕ) (x : Facts) (ke
   pub passed : Passed m now lent s x f
   pub entries : EntriesConflict (roots_of limits m now lent f) (entries_of f) (wrapping_size limits m now lent f) → ⊥
   pub keys : KeyedBy (roots_of limits m now lent f) (entries_of f) (wrapping_size limits m now lent f) f now keyed
-  pub held-is : keyed.found ≡ found.Keys → HeldTold m now lent f over held
+  pub held-is : keyed.found ≡ Ok tt → HeldTold m now lent f over held
 
 module _ (m : State) (now : ℕ) (lent s : List ℕ) (x : Facts) (keyed : Keyed) (over : Bool) (held : Held) (f : Frame)
     (o : KeysKnown m now lent s x keyed over held f) where
-  keys-by : (y : SasFound) → keyed.found ≡ y →
+  keys-by : (y : Result (Unit {0}) SasFault) → keyed.found ≡ y →
       KeysOf (roots_of limits m now lent f) (entries_of f) (wrapping_size limits m now lent f) f (announced f) now y keyed.sas
       keyed.count
   keys-by y e =
       subst
-      (λ (z : SasFound).
+      (λ (z : Result (Unit {0}) SasFault).
       KeysOf (roots_of limits m now lent f) (entries_of f) (wrapping_size limits m now lent f) f (announced f) now z keyed.sas
       keyed.count)
       e o.keys.keys
 
-  pub by-conflict : keyed.found ≡ found.KeyConflict → Judged limits m now lent f 8 m
-  by-conflict e = conflict-of-copies m now lent f o.passed.clauses (keys-by found.KeyConflict e)
+  pub by-conflict : keyed.found ≡ Err KeyConflict → Judged limits m now lent f 8 m
+  by-conflict e = conflict-of-copies m now lent f o.passed.clauses (keys-by (Err KeyConflict) e)
 
-  pub by-missing : keyed.found ≡ found.KeyMissing → Judged limits m now lent f 9 m
+  pub by-missing : keyed.found ≡ Err KeyMissing → Judged limits m now lent f 9 m
   by-missing e =
-      let k = keys-by found.KeyMissing e in
+      let k = keys-by (Err KeyMissing) e in
       unopened m now lent f o.passed.clauses o.entries k.0 k.1
 
-  module _ (e : keyed.found ≡ found.Keys) where
+  module _ (e : keyed.found ≡ Ok tt) where
     pub by_over : over ≡ true → Judged limits m now lent f 7 m
     by_over w =
-        let k = keys-by found.Keys e in
+        let k = keys-by (Ok tt) e in
         over-number7 m now lent f o.passed.clauses o.entries k.0 (take keyed.count keyed.sas) k.1
         ((o.held-is e).beyond w)
 
     pub by-keys : over ≡ false → (next : State) → Follows m now f (take keyed.count keyed.sas) held next →
         Judged limits m now lent f 0 next
     by-keys w next follows =
-        let k = keys-by found.Keys e in
+        let k = keys-by (Ok tt) e in
         let new = take keyed.count keyed.sas in
         opened m now lent f o.passed.clauses o.entries k.0 new k.1 held next
         (subst (λ (x : Bool). HeldTold m now lent f x held) w (o.held-is e)) follows
 
     pub room-is : length (not_due_sas now m) + keyed.count ≤ limits.sas
     room-is =
-        let k = keys-by found.Keys e in
+        let k = keys-by (Ok tt) e in
         let n = few-sas m now lent f o.passed.clauses in
         omega (arith, k.2)
 
     pub new-few : keyed.count ≤ new_sas
     new-few =
-        let k = keys-by found.Keys e in
+        let k = keys-by (Ok tt) e in
         let n = few-announced m now lent f o.passed.clauses in
         omega (arith, k.2)

@@ -1,4 +1,5 @@
 -- A frame whose keys are opened: the refusal that they give it, or what is known of it.
+use Rattle.std.specs.Prelude.{Result, Ok, Err}
 use Prim.Native.Nat.{ℕ, ◌<◌}
 use native.Mathlib.Omega.{arith}
 use mathlib.Core.Path.{◌≡◌, refl, sym, subst}
@@ -16,8 +17,8 @@ use Rattle.check_judging.specs.declared.facts.Facts.{Facts}
 use Rattle.check_judging.specs.declared.numbers.Refusal.{Refusal}
 use Rattle.check_judging.specs.declared.numbers.Refusal.TheVariants as refusal
 use Rattle.receive.specs.declared.opening.KeysFound.{KeysFound}
-use Rattle.unwrap_sas.specs.declared.joining.SasFound.{SasFound}
-use Rattle.unwrap_sas.specs.declared.joining.SasFound.TheVariants as found
+use Rattle.unwrap_sas.specs.declared.joining.SasFault.{SasFault}
+use Rattle.unwrap_sas.specs.declared.joining.SasFault.TheVariants.{KeyConflict, KeyMissing}
 use Rattle.receive.specs.inner.Opening.{FrameWithKeys, number_of_keys}
 use Rattle.receive.proofs.ConcludingLaws.{conflict-of-entries, KeysKnown, by-conflict, by-missing, by_over}
 
@@ -41,13 +42,13 @@ module _ {m : State} {now : ℕ} {lent s : List ℕ} {x : Facts} {f : Frame} (r 
   pub keys-known : r.conflict ≡ false → KeysKnown m now lent s x r.keyed r.over r.held f
   keys-known e = record { passed = o.passed; entries = tells false e; keys = o.opened.keys e; held-is = o.opened.held e }
 
-  refused-by : (c : Bool) → r.conflict ≡ c → (y : SasFound) → r.keyed.found ≡ y → (w : Bool) → r.over ≡ w → 0 < number_of_keys c y w →
-      Judged limits m now lent f (number_of_keys c y w) m
+  refused-by : (c : Bool) → r.conflict ≡ c → (y : Result (Unit {0}) SasFault) → r.keyed.found ≡ y → (w : Bool) → r.over ≡ w →
+      0 < number_of_keys c y w → Judged limits m now lent f (number_of_keys c y w) m
   refused-by true e y g w h k = conflict-of-entries m now lent f o.passed.clauses (tells true e)
-  refused-by false e found.KeyConflict g w h k = by-conflict m now lent s x r.keyed r.over r.held f (keys-known e) g
-  refused-by false e found.KeyMissing g w h k = by-missing m now lent s x r.keyed r.over r.held f (keys-known e) g
-  refused-by false e found.Keys g true h k = by_over m now lent s x r.keyed r.over r.held f (keys-known e) g h
-  refused-by false e found.Keys g false h k = absurd (omega arith)
+  refused-by false e (Err KeyConflict) g w h k = by-conflict m now lent s x r.keyed r.over r.held f (keys-known e) g
+  refused-by false e (Err KeyMissing) g w h k = by-missing m now lent s x r.keyed r.over r.held f (keys-known e) g
+  refused-by false e (Ok u) g true h k = by_over m now lent s x r.keyed r.over r.held f (keys-known e) g h
+  refused-by false e (Ok u) g false h k = absurd (omega arith)
 
   -- the keys refuse the frame
   pub refuses : (u : Refusal) → number_of_keys r.conflict r.keyed.found r.over ≡ number_of_refusal u →
@@ -59,17 +60,17 @@ module _ {m : State} {now : ℕ} {lent s : List ℕ} {x : Facts} {f : Frame} (r 
 -- the keys do not refuse it
 pub record Opens (r : KeysFound) : Type 0 where
   pub fit : r.conflict ≡ false
-  pub each : r.keyed.found ≡ found.Keys
+  pub each : r.keyed.found ≡ Ok tt
   pub room : r.over ≡ false
 
 module _ (r : KeysFound) where
-  opens_by : (c : Bool) → r.conflict ≡ c → (y : SasFound) → r.keyed.found ≡ y → (w : Bool) → r.over ≡ w → number_of_keys c y w ≡ 0
-      → Opens r
+  opens_by : (c : Bool) → r.conflict ≡ c → (y : Result (Unit {0}) SasFault) → r.keyed.found ≡ y → (w : Bool) → r.over ≡ w →
+      number_of_keys c y w ≡ 0 → Opens r
   opens_by true e y g w h k = absurd (omega arith)
-  opens_by false e found.KeyConflict g w h k = absurd (omega arith)
-  opens_by false e found.KeyMissing g w h k = absurd (omega arith)
-  opens_by false e found.Keys g true h k = absurd (omega arith)
-  opens_by false e found.Keys g false h k = record { fit = e; each = g; room = h }
+  opens_by false e (Err KeyConflict) g w h k = absurd (omega arith)
+  opens_by false e (Err KeyMissing) g w h k = absurd (omega arith)
+  opens_by false e (Ok u) g true h k = absurd (omega arith)
+  opens_by false e (Ok u) g false h k = record { fit = e; each = g; room = h }
 
   pub opens : number_of_keys r.conflict r.keyed.found r.over ≡ 0 → Opens r
   opens z = opens_by r.conflict refl r.keyed.found refl r.over refl z

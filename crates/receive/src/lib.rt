@@ -22,7 +22,7 @@ use check_judging::numbers::Refusal;
 use ikev2_numbers::EXCHANGE_AT;
 use opening::KeysFound;
 use state::State;
-use unwrap_sas::joining::SasFound;
+use unwrap_sas::joining::SasFault;
 use wire_frames::exchanges::{Exchange, exchange_of};
 
 // Reads the exchange of the frame `s`. Answers its row: what the exchange makes different.
@@ -36,7 +36,7 @@ pub fn row_of(s: &[u8]) -> Exchange
 // Whether the keys of a frame let it pass: refusal 8 if it holds of the entries (`conflict`) or of some SA's copies, refusal 9 if some SA
 // has no key, refusal 7 if the held list after acceptance would be over its limit (`over`): "Over 128 then is 7, judged after 9"
 // (document 02, T-11).
-fn judge_keys(conflict: bool, found: SasFound, over: bool) -> Result<(), Refusal>
+fn judge_keys(conflict: bool, found: Result<(), SasFault>, over: bool) -> Result<(), Refusal>
     ensures { MatchResult result (λ u. number_of_keys conflict found over ≡ 0)
         (λ r. number_of_keys conflict found over ≡ number_of_refusal r) }
 {
@@ -44,14 +44,10 @@ fn judge_keys(conflict: bool, found: SasFound, over: bool) -> Result<(), Refusal
         return Err(Refusal::KeyConflict);
     }
     match found {
-        SasFound::KeyConflict => Err(Refusal::KeyConflict),
-        SasFound::KeyMissing => Err(Refusal::NoKey),
-        SasFound::Keys => {
-            if over {
-                return Err(Refusal::OverLimit);
-            }
-            Ok(())
-        }
+        Err(SasFault::KeyConflict) => Err(Refusal::KeyConflict),
+        Err(SasFault::KeyMissing) => Err(Refusal::NoKey),
+        Ok(()) if over => Err(Refusal::OverLimit),
+        Ok(()) => Ok(()),
     }
 }
 

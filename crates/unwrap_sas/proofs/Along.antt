@@ -1,4 +1,5 @@
 -- Where the walk over the policies of a GSA body stands: those that were passed, and what is known of them.
+use Rattle.std.specs.Prelude.{Result, Ok, Err}
 use native.Mathlib.Omega.{arith}
 use Prim.Native.Nat.{ℕ, ◌+◌, ◌<◌, ◌≤◌}
 use mathlib.Core.Path.{◌≡◌, refl, ap, sym, ◌∙◌, subst}
@@ -29,8 +30,8 @@ use Rattle.rules_outcome.proofs.RunsLists.{none_passes}
 use Rattle.unwrap_sas.specs.inner.Keyed.{new_sas, ChecksPassed, found_by, KeysOf, SomeConflict, KeyedBy}
 use Rattle.unwrap_sas.specs.inner.Policies.{SaPredicate, IsConflict, IsUnopened, IsSa, OpeningKeys, spi_at, body_at, Announces}
 use Rattle.unwrap_sas.specs.inner.Policies.{IsAnnounced}
-use Rattle.unwrap_sas.specs.declared.joining.SasFound.{SasFound}
-use Rattle.unwrap_sas.specs.declared.joining.SasFound.TheVariants.{KeyConflict, KeyMissing, Keys}
+use Rattle.unwrap_sas.specs.declared.joining.SasFault.{SasFault}
+use Rattle.unwrap_sas.specs.declared.joining.SasFault.TheVariants.{KeyConflict}
 use Rattle.unwrap_copies.specs.declared.answer.Openers.{Openers}
 use Rattle.unwrap_copies.specs.inner.Openers.{openers_of, OpenersAre}
 use Rattle.lists.proofs.Cases.{bool_cases}
@@ -38,19 +39,9 @@ use Rattle.unwrap_sas.proofs.Further.{conflict-wider, conflict-more, unopened-mo
 use Rattle.unwrap_sas.proofs.RekeyCopies.{copies_among, among_none, among-other, among_first, few-copies}
 use Rattle.unwrap_sas.proofs.PolicyAt.{sas_from, no-more-sas, SaAt, PolicyAt}
 
--- ---- keys were found if none is missing and no copies conflict
-is_keys : SasFound → Bool
-is_keys KeyConflict = false
-is_keys KeyMissing = false
-is_keys Keys = true
-
-no_keys : KeyConflict ≡ Keys → ⊥
-unfolding is_keys
-no_keys e = false≢true (ap is_keys e)
-
-keys-told : (missing : Bool) → found_by missing ≡ Keys → missing ≡ false
-unfolding is_keys
-keys-told true e = absurd (false≢true (ap is_keys e))
+-- ---- keys were found if none is missing
+keys-told : (missing : Bool) → found_by missing ≡ Ok tt → missing ≡ false
+keys-told true e = cc
 keys-told false e = refl
 
 -- ---- a policy of a frame that numbers 4 to 7 let pass
@@ -135,8 +126,8 @@ module _ (reads : Bool) (g k schedule carried fresh ids block : List ℕ) (tick 
       }
 
   module _ (at : ℕ) (missing : Bool) (sas : List Sa) (count : ℕ) (openers : Openers) (w : Along at missing sas count openers) where
-    pub along-end : (found : SasFound) → found ≡ found_by missing → length g ≤ at → (roots : List Root) (entries : List WrapKey) (size : ℕ)
-        (f : Frame) → ChecksPassed reads f g k → OpeningKeys schedule carried fresh ids block roots entries size →
+    pub along-end : (found : Result (Unit {0}) SasFault) → found ≡ found_by missing → length g ≤ at → (roots : List Root)
+        (entries : List WrapKey) (size : ℕ) (f : Frame) → ChecksPassed reads f g k → OpeningKeys schedule carried fresh ids block roots entries size →
         KeyedBy roots entries size f tick (record { found = found; sas = sas; count = count; openers = openers })
     unfolding rekey_copies
     along-end found e h roots entries size f y o =
@@ -146,7 +137,7 @@ module _ (reads : Bool) (g k schedule carried fresh ids block : List ℕ) (tick 
         record {
           keys =
               subst (λ (l : List GroupSaPolicy). KeysOf roots entries size f l tick found sas count) all
-              (subst (λ (x : SasFound). KeysOf roots entries size f w.passed tick x sas count) (sym e)
+              (subst (λ (x : Result (Unit {0}) SasFault). KeysOf roots entries size f w.passed tick x sas count) (sym e)
               (w.known roots entries size f y o));
           openers = λ k.
               subst (λ (l : List GroupSaPolicy). OpenersAre roots entries size (copies_among f l) (openers_of openers)) all
@@ -202,14 +193,14 @@ module _ (reads : Bool) (g k schedule carried fresh ids block : List ℕ) (tick 
         pub along-conflict : Says IsConflict → (n : ℕ) (table : List Sa) (o : Openers)
             → (roots : List Root) (entries : List WrapKey) (size : ℕ) (f : Frame) → ChecksPassed reads f g k →
             OpeningKeys schedule carried fresh ids block roots entries size →
-            KeyedBy roots entries size f tick (record { found = KeyConflict; sas = table; count = n; openers = o })
+            KeyedBy roots entries size f tick (record { found = Err KeyConflict; sas = table; count = n; openers = o })
         along-conflict more n table others roots entries size f y o =
             let e = more roots entries size f s.sa (record { opening = o; stands = along-announces f y }) in
             let u = conflict-wider roots entries size f tick (w.passed ++ (s.sa ∷ [])) (sas_from g (at + r.end))
             (conflict-more roots entries size f tick w.passed s.sa e) in
             record {
               keys = subst (SomeConflict roots entries size f) (all-next ∙ ap (flat_map group_sa_in) (sym y.policies)) u;
-              openers = λ k. absurd (no_keys k);
+              openers = λ k. cc;
             }
 
         pub along-none : Says IsUnopened → Along (at + r.end) true sas count openers

@@ -1,4 +1,5 @@
 -- What is known of some policies, and of one more.
+use Rattle.std.specs.Prelude.{Err}
 use native.Mathlib.Omega.{arith}
 use native.Mathlib.Numerals.{add-one}
 use Prim.Native.Nat.{ℕ, ◌+◌, ◌<◌}
@@ -22,7 +23,7 @@ use Rattle.rules_chains.proofs.Members.{in-member, member-in}
 use Rattle.rules_outcome.proofs.Members.{in_head}
 use Rattle.unwrap_sas.specs.inner.Keyed.{found_by, SomeConflict, NoConflict, SomeUnopened, KeysOf}
 use Rattle.unwrap_sas.specs.inner.Policies.{IsConflict, IsUnopened, IsSa}
-use Rattle.unwrap_sas.specs.declared.joining.SasFound.TheVariants.{KeyMissing}
+use Rattle.unwrap_sas.specs.declared.joining.SasFault.TheVariants.{KeyMissing}
 
 module _ (roots : List Root) (entries : List WrapKey) (size : ℕ) (f : Frame) (tick : ℕ) where
   -- ---- policies among more policies
@@ -68,7 +69,7 @@ module _ (roots : List Root) (entries : List WrapKey) (size : ℕ) (f : Frame) (
     no-conflict false sas n k = k.0
 
     pub unopened-more : (missing : Bool) (sas : List Sa) (n : ℕ) → KeysOf roots entries size f l tick (found_by missing) sas n →
-        IsUnopened roots entries size f a → KeysOf roots entries size f (l ++ (a ∷ [])) tick KeyMissing sas n
+        IsUnopened roots entries size f a → KeysOf roots entries size f (l ++ (a ∷ [])) tick (Err KeyMissing) sas n
     unopened-more missing sas n k u =
         (fit-further l a (no-conflict missing sas n k) (unopened-fit a u), record { sa = a; stands = last-in l a; none = u })
 

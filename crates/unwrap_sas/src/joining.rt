@@ -17,23 +17,24 @@ use unwrap_copies::answer::{Copied, Openers, no_openers};
 // Room for the SAs that a frame announces: as many ESP SAs as it may have, and a Rekey SA.
 pub const NEW_SAS: usize = ESP_POLICIES + 1;
 
-// `KeyConflict`: refusal 8 holds of the copies of some SA. `KeyMissing`: it holds of none, but some SA has no copy that opens (refusal 9).
-// `Keys`: each SA has its key.
-#[derive(Clone, Copy)]
-pub enum SasFound {
+// Why the SAs that a frame announces have not all their keys.
+#[derive(Clone, Copy, Debug, PartialEq, Eq)]
+pub enum SasFault {
+    // refusal 8 holds of the copies of some SA
     KeyConflict,
+    // it holds of none, but some SA has no copy that opens (refusal 9)
     KeyMissing,
-    Keys,
 }
 
-// The result for all SAs that a frame announces. With `Keys`, the new SAs are the first `count` of `sas`, and `openers` are the KWK IDs of
-// the copies of the Rekey SA's key that open.
+// The result for all SAs that a frame announces. If each has its key, the new SAs are the first `count` of `sas`, and `openers` are the KWK
+// IDs of the copies of the Rekey SA's key that open. Kept as arrays with the result behind them: behind the mark of a `Result` an array that
+// is handed on takes one `receive` 6 kB of stack more (docs/landings/T-11.md).
 #[derive(Clone, Copy)]
 pub struct Keyed {
     pub sas: [Sa; NEW_SAS],
     pub count: usize,
     pub openers: Openers,
-    pub found: SasFound,
+    pub found: Result<(), SasFault>,
 }
 
 // The result for one SA. With `Key`, `sa` is the SA and `openers` are the KWK IDs of its copies that open; else `sa` is blank.

@@ -33,7 +33,7 @@ ghost use Rattle.unwrap_sas.specs.inner.Policies.{OpeningKeys, spi_at, body_at, 
 
 use aes::{INVERSE_TABLE_WORDS, InverseSchedule, expand_inverse, inverse_tables};
 use ikev2_numbers::{NO_PROTOCOL, POLICY_HEAD};
-use joining::{Keyed, NEW_SAS, One, SasFound, one_sa, rekey_openers};
+use joining::{Keyed, NEW_SAS, One, SasFault, one_sa, rekey_openers};
 use state_keys::kinds::WrappingKey;
 use state_sa::entry::Sa;
 use unwrap_copies::answer::{Copied, no_openers};
@@ -171,13 +171,14 @@ fn open_policy_at<'a>(
 }
 
 // Answers what was found if refusal 8 holds of no SA. `missing`: no copy of some SA opens (refusal 9).
-fn found_by(missing: bool) -> SasFound
+fn found_by(missing: bool) -> Result<(), SasFault>
     ensures { result ≡ found_by missing }
 {
     if missing {
-        return SasFound::KeyMissing;
+        Err(SasFault::KeyMissing)
+    } else {
+        Ok(())
     }
-    SasFound::Keys
 }
 
 // Opens the keys of all SAs that a frame announces, as `open_sas` does. `schedule` is that of key 0.
@@ -218,9 +219,8 @@ fn walk_policies<'a>(
             let found = one.found;
             match found {
                 unwrap_copies::answer::CopyFound::Conflict => {
-                    let found = SasFound::KeyConflict;
                     return Keyed {
-                        found,
+                        found: Err(SasFault::KeyConflict),
                         sas,
                         count,
                         openers,

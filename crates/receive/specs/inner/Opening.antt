@@ -1,5 +1,5 @@
 -- The keys of a frame that numbers 2 to 7 let pass: key 0, what is opened, and the held list after acceptance. Inner.
-use Rattle.std.specs.Prelude.{ℕ, ◌≤◌, ◌≡◌, Bool, true, false, List}
+use Rattle.std.specs.Prelude.{ℕ, ◌≤◌, ◌≡◌, Bool, true, false, Result, Ok, Err, List}
 use Rattle.fips197.specs.Key.{Key}
 use Rattle.wire_attributes.specs.Tree.{SaKey, WrapKey}
 use Rattle.state_keys.specs.Limits.{limits}
@@ -20,8 +20,8 @@ use Rattle.unwrap_conflicts.specs.inner.Values.{Decides}
 use Rattle.unwrap_copies.specs.inner.Openers.{OneOpens}
 use Rattle.unwrap_paths.specs.declared.held.PathHeld.{PathHeld}
 use Rattle.unwrap_sas.specs.inner.Keyed.{KeyedBy}
-use Rattle.unwrap_sas.specs.declared.joining.SasFound.{SasFound}
-use Rattle.unwrap_sas.specs.declared.joining.SasFound.TheVariants as found
+use Rattle.unwrap_sas.specs.declared.joining.SasFault.{SasFault}
+use Rattle.unwrap_sas.specs.declared.joining.SasFault.TheVariants.{KeyConflict, KeyMissing}
 use Rattle.receive.specs.declared.opening.KeysFound.{KeysFound}
 use Rattle.receive.specs.inner.Passing.{Passed, Bagged, reads_by, HeldTold}
 
@@ -58,7 +58,7 @@ pub record KeysOpened (m : State) (now : ℕ) (lent : List ℕ) (r : KeysFound) 
   pub conflict : Decides r.conflict (EntriesConflict (roots_of limits m now lent f) (entries_of f) (wrapping_size limits m now lent f))
   pub keys : r.conflict ≡ false →
       KeyedBy (roots_of limits m now lent f) (entries_of f) (wrapping_size limits m now lent f) f now r.keyed
-  pub held : r.conflict ≡ false → r.keyed.found ≡ found.Keys → HeldTold m now lent f r.over r.held
+  pub held : r.conflict ≡ false → r.keyed.found ≡ Ok tt → HeldTold m now lent f r.over r.held
 
 -- a frame that numbers 2 to 7 let pass, whose keys are opened
 pub record FrameWithKeys (m : State) (now : ℕ) (lent s : List ℕ) (x : Facts) (r : KeysFound) (f : Frame) : Type 0 where
@@ -67,9 +67,9 @@ pub record FrameWithKeys (m : State) (now : ℕ) (lent s : List ℕ) (x : Facts)
 
 -- the number by which the keys of a frame refuse it, 0 if they do not: whether 8 holds of its entries, the result for its SAs, and whether
 -- the held list after acceptance would be over its limit
-abbrev pub number_of_keys : Bool → SasFound → Bool → ℕ
+abbrev pub number_of_keys : Bool → Result (Unit {0}) SasFault → Bool → ℕ
 number_of_keys true y over = 8
-number_of_keys false found.KeyConflict over = 8
-number_of_keys false found.KeyMissing over = 9
-number_of_keys false found.Keys true = 7
-number_of_keys false found.Keys false = 0
+number_of_keys false (Err KeyConflict) over = 8
+number_of_keys false (Err KeyMissing) over = 9
+number_of_keys false (Ok u) true = 7
+number_of_keys false (Ok u) false = 0

@@ -1,5 +1,5 @@
 -- The keys of all SAs that a frame announces: number 8 of their copies, number 9, or the SAs that enter.
-use Rattle.std.specs.Prelude.{ℕ, ◌+◌, ◌≤◌, ◌≡◌, Bool, true, false, List, length, take}
+use Rattle.std.specs.Prelude.{ℕ, ◌+◌, ◌≤◌, ◌≡◌, Bool, true, false, Result, Ok, Err, List, length, take}
 use Rattle.state_keys.specs.Limits.{limits}
 use Rattle.wire_attributes.specs.Tree.{WrapKey}
 use Rattle.wire_policies.specs.Policy.{GroupSaPolicy}
@@ -18,8 +18,8 @@ use Rattle.rules_outcome.specs.Roots.{copies_of, announced_as}
 use Rattle.rules_outcome.specs.Holding.{rekey_copies}
 use Rattle.rules_outcome.specs.After.{Enter}
 use Rattle.unwrap_copies.specs.inner.Openers.{openers_of, OpenersAre}
-use Rattle.unwrap_sas.specs.declared.joining.SasFound.{SasFound}
-use Rattle.unwrap_sas.specs.declared.joining.SasFound.TheVariants as found
+use Rattle.unwrap_sas.specs.declared.joining.SasFault.{SasFault}
+use Rattle.unwrap_sas.specs.declared.joining.SasFault.TheVariants.{KeyConflict, KeyMissing}
 use Rattle.unwrap_sas.specs.declared.joining.Keyed.{Keyed}
 
 -- as many SAs as a frame may announce: its ESP SAs and a Rekey SA
@@ -42,9 +42,9 @@ pub record ChecksPassed (reads : Bool) (f : Frame) (g k : List ℕ) : Type 0 whe
   pub few-copies : many_sa_keys limits f ≡ false
 
 -- the answer if number 8 holds of no SA: with `true` some SA has no copy that opens, with `false` each SA has its key
-abbrev pub found_by : Bool → SasFound
-found_by true = found.KeyMissing
-found_by false = found.Keys
+abbrev pub found_by : Bool → Result (Unit {0}) SasFault
+found_by true = Err KeyMissing
+found_by false = Ok tt
 
 -- ---- of the policies l of the frame f
 module _ (roots : List Root) (entries : List WrapKey) (size : ℕ) (f : Frame) (l : List GroupSaPolicy) where
@@ -65,10 +65,10 @@ module _ (roots : List Root) (entries : List WrapKey) (size : ℕ) (f : Frame) (
     pub none : (x : List ℕ) → CopyOpens roots entries size (copies_of f sa) x → ⊥
 
   -- "each is judged only when the lower ones don't apply"; the lifetimes of the SAs start at `tick`
-  abbrev pub KeysOf : ℕ → SasFound → List Sa → ℕ → Type 0
-  KeysOf tick found.KeyConflict sas count = SomeConflict
-  KeysOf tick found.KeyMissing sas count = NoConflict × SomeUnopened
-  KeysOf tick found.Keys sas count = NoConflict × Enter roots entries size tick f l (take count sas) × (count ≡ length l)
+  abbrev pub KeysOf : ℕ → Result (Unit {0}) SasFault → List Sa → ℕ → Type 0
+  KeysOf tick (Err KeyConflict) sas count = SomeConflict
+  KeysOf tick (Err KeyMissing) sas count = NoConflict × SomeUnopened
+  KeysOf tick (Ok u) sas count = NoConflict × Enter roots entries size tick f l (take count sas) × (count ≡ length l)
 
   abbrev pub KeysIn : ℕ → Keyed → Type 0
   KeysIn tick r = KeysOf tick r.found r.sas r.count
@@ -77,4 +77,4 @@ module _ (roots : List Root) (entries : List WrapKey) (size : ℕ) (f : Frame) (
 -- with them come the KWK IDs of the copies of the Rekey SA's key that open
 pub record KeyedBy (roots : List Root) (entries : List WrapKey) (size : ℕ) (f : Frame) (tick : ℕ) (r : Keyed) : Type 0 where
   pub keys : KeysIn roots entries size f (announced f) tick r
-  pub openers : r.found ≡ found.Keys → OpenersAre roots entries size (rekey_copies f) (openers_of r.openers)
+  pub openers : r.found ≡ Ok tt → OpenersAre roots entries size (rekey_copies f) (openers_of r.openers)
