@@ -55,11 +55,8 @@ fn temp_at(t: &[u32], at: usize, nk: usize, p: WordPlace, x: u32) -> u32
         let y = rotated24(x);
         return last_column(t, at, y, y, y, y, join(p.constant, 0, 0, 0));
     }
-    if 6 < nk {
-        if p.word == 4 {
-            return last_column(t, at, x, x, x, x, 0);
-        }
-        return x;
+    if 6 < nk && p.word == 4 {
+        return last_column(t, at, x, x, x, x, 0);
     }
     x
 }
@@ -71,10 +68,8 @@ fn key_words(key: &[u8]) -> [u32; SCHEDULE_WORDS]
 {
     let nk = key.len() / 4;
     let mut w = [0u32; SCHEDULE_WORDS];
-    let mut j = 0;
-    while j < nk {
+    for j in 0..nk {
         w[j] = join(key[4 * j], key[4 * j + 1], key[4 * j + 2], key[4 * j + 3]);
-        j += 1;
     }
     w
 }
@@ -91,11 +86,9 @@ pub fn expand_words(t: &[u32], at: usize, key: &[u8]) -> [u32; SCHEDULE_WORDS]
         word: 0,
         constant: 1,
     };
-    let mut i = nk;
-    while i < 4 * (nk + 7) {
+    for i in nk..4 * (nk + 7) {
         w[i] = w[i - nk] ^ temp_at(t, at, nk, p, w[i - 1]);
         p = next_place(p, nk);
-        i += 1;
     }
     w[60] = (nk + 6) as u32;
     w
@@ -134,10 +127,8 @@ pub fn expanded_inverse(t: &[u32], key: &[u8]) -> [u32; SCHEDULE_WORDS]
     let w = expand_words(t, 512, key);
     let n = key.len() / 4 + 6;
     let mut k = [0u32; SCHEDULE_WORDS];
-    let mut j = 0;
-    while j < 4 * (n + 1) {
+    for j in 0..4 * (n + 1) {
         k[j] = inverse_word(t, &w, n, j);
-        j += 1;
     }
     k[60] = n as u32;
     k

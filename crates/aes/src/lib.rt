@@ -22,6 +22,13 @@ use lookup::{decipher_tables, encipher_tables};
 use rounds::{load, reverse_columns, run, split, store, unite};
 use words::apart;
 
+// The octets of the keys of AES-128, AES-192 and AES-256.
+const KEY_128: usize = 16;
+
+const KEY_192: usize = 24;
+
+const KEY_256: usize = 32;
+
 // The words of the tables for enciphering: a combined table and the substitution box.
 pub const TABLE_WORDS: usize = 512;
 
@@ -58,6 +65,14 @@ pub struct Schedule {
 #[derive(Clone, Copy)]
 pub struct InverseSchedule {
     pub words: [u32; SCHEDULE_WORDS],
+}
+
+// Whether a key can have `count` octets.
+#[tactic(auto, unfolding(fips197::specs::Key::is_key))]
+pub fn is_key(count: usize) -> bool
+    ensures { result ≡ is_key count }
+{
+    count == KEY_128 || count == KEY_192 || count == KEY_256
 }
 
 // Makes the tables for `expand`, `encrypt` and `encrypt_pair`. A caller makes them once and lends them, since the language has no static

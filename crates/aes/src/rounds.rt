@@ -112,10 +112,8 @@ pub(crate) fn run(t: &[u32], k: &[u32; SCHEDULE_WORDS], s: AesState) -> AesState
 {
     let n = k[60] as usize;
     let mut x = start(k, s);
-    let mut r = 1;
-    while r < n {
+    for r in 1..n {
         x = round(t, k, r, x);
-        r += 1;
     }
     last(t, k, n, x)
 }

@@ -6,19 +6,14 @@ ghost use Rattle.aes.specs.inner.Word.{word_of, word_octets, ror8, ror16, ror24,
 pub fn join(p: u8, q: u8, r: u8, t: u8) -> u32
     ensures { result ≡ word_of p q r t }
 {
-    (((p as u32) * 256 + (q as u32)) * 256 + (r as u32)) * 256 + (t as u32)
+    u32::from_be_bytes([p, q, r, t])
 }
 
 // Splits the word `x` into its octets.
 pub fn apart(x: u32) -> [u8; 4]
     ensures { result ≡ word_octets x }
 {
-    [
-        ((x >> 24) % 256) as u8,
-        ((x >> 16) % 256) as u8,
-        ((x >> 8) % 256) as u8,
-        (x % 256) as u8,
-    ]
+    x.to_be_bytes()
 }
 
 // Rotates `x` to the right by 8 bits.

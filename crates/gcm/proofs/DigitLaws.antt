@@ -5,10 +5,10 @@ use native.Mathlib.Nat.{mod-lt, div-div-eq-div-mul, add-mul-div_right, mul_assoc
 use native.Mathlib.Nat.{add_comm, add-zero, mul-add-mod_self_right, not-suc-le-zero, le_of_suc-le-suc}
 use native.Mathlib.Omega.{arith}
 use lib.Arith.{digits_div}
-use lib.Dec.{T, lit<, eqb, eqb→eq, ltb, ltb→lt}
+use lib.Dec.{lit<, eqb, eqb→eq, ltb, ltb→lt}
 use lib.Pow.{pow-add, pow_pos}
 use lib.Bits.{bit_xor, xor_block, xor_zero_r}
-use Rattle.lists.proofs.Below.{all-below, below}
+use Rattle.lists.proofs.Below.{below}
 use Rattle.sp800_38d.specs.Product.{reduction, bit, shifted, v_at}
 use Rattle.gcm.specs.inner.Multiples.{nibble, digit}
 use Rattle.gcm.proofs.NibbleLaws.{shifted-four}

@@ -74,6 +74,15 @@ next-block h z at s {x} {z'} k a b =
     ∙ ap₂ (λ (y : ℕ) (t : List ℕ). ghash_from h y (block_numbers (blocks_in (length s - (at + 16))) t))
     (ap (λ (n : ℕ). product (bit_xor z n) h) (sym a) ∙ sym b) (drop-drop 16 at s)
 
+pub absorbed : (w s : List ℕ) (y z i : ℕ) {x z' : ℕ} → Absorbing w s y z (16 * i) → 16 * i + 16 ≤ length s → x ≡ number 16 (drop (16 * i) s)
+    → ((h : ℕ) → Multiples h w → z' ≡ product (bit_xor z x) h) → Absorbing w s y z' (16 * (i + 1))
+absorbed w s y z i {x} {z'} a k b f =
+    record {
+      inside = omega arith;
+      left = λ h m. a.left h m ∙ next-block h z (16 * i) s k b (f h m)
+          ∙ ap (rest h z' s) (let q : 16 * i + 16 ≡ 16 * (i + 1) = omega arith in q);
+    }
+
 pub last_one : (h z at : ℕ) (s : List ℕ) {x z' : ℕ} → at < length s → length s < at + 16 → x ≡ number 16 (drop at s) → z' ≡ product
     (bit_xor z x) h
     → rest h z s at ≡ z'

@@ -158,12 +158,6 @@ pub record Streaming (schedule nonce c room now : List ℕ) (at n : ℕ) : Type 
   pub size : length now ≡ length room
   pub puts : (key : List ℕ) → Expands key schedule → PutsOctets (streamed nonce key c) 0 at room now
 
--- a block of the stream added up to i
-pub record Adding (m c room now : List ℕ) (at end i : ℕ) : Type 0 where
-  pub begun : at ≤ i
-  pub inside : i ≤ end
-  pub puts : PutsOctets (masked m c at) at i room now
-
 -- the loop over one block
 module _ (f : ℕ → ℕ) (from : ℕ) (room : List ℕ) where
   pub nothing_put : PutsOctets f from from room room

@@ -53,15 +53,13 @@ fn absorb(w: &[u64], y: Pair, s: &[u8]) -> Pair
         pair_number result ≡ ghash_from h (pair_number y) (block_numbers (blocks_in (length s.now)) s.now) }
 {
     let mut z = y;
-    let mut at: usize = 0;
-    while 16 <= s.len() - at {
-        let x = block_at(s, at);
-        z = hash_block(w, z, x);
-        at += 16;
+    let blocks = s.len() / 16;
+    for i in 0..blocks {
+        z = hash_block(w, z, block_at(s, 16 * i));
     }
+    let at = 16 * blocks;
     if at < s.len() {
-        let x = last_block(&s[at..]);
-        return hash_block(w, z, x);
+        z = hash_block(w, z, last_block(&s[at..]));
     }
     z
 }

@@ -9,7 +9,6 @@ pub mod stream;
 
 ghost use Rattle.std.specs.Prelude.{◌≡◌, List, ℕ, ◌+◌, ◌≤◌, eqb, length};
 ghost use Rattle.octets.specs.Numbers.{number};
-ghost use Rattle.fips197.specs.Key.{is_key};
 ghost use Rattle.sp800_38d.specs.Encryption.{nonce_octets, tag_octets, most_text, most_data, tag};
 ghost use Rattle.aes.specs.inner.Tables.{encipher_tables};
 ghost use Rattle.aes.specs.inner.Schedule.{Expands, Expanded};
@@ -79,18 +78,6 @@ pub fn verify_tag(
     is_same(made, given)
 }
 
-fn is_key(count: usize) -> bool
-    ensures { result ≡ is_key count }
-{
-    if count == 16 {
-        return true;
-    }
-    if count == 24 {
-        return true;
-    }
-    count == 32
-}
-
 // GCM-AD: opens octets that are a ciphertext and its tag, at the room's start. The tag is verified before anything is written.
 pub fn open(key: &[u8], nonce: &[u8], a: &[u8], octets: &[u8], room: &mut [u8]) -> bool
     ensures { UnsealAnswers key.now nonce.now a.now octets.now room.old result
@@ -112,14 +99,14 @@ pub fn open(key: &[u8], nonce: &[u8], a: &[u8], octets: &[u8], room: &mut [u8]) 
     if nonce.len() != NONCE_OCTETS {
         return false;
     }
-    if is_key(key.len()) {
-        let tables = aes::tables();
-        let schedule = aes::expand(&tables, key);
-        if verify_tag(&tables, &schedule.words, nonce, a, octets) {
-            gctr_in(&tables, &schedule.words, nonce, &octets[0..n], room);
-            return true;
-        }
+    if !aes::is_key(key.len()) {
         return false;
     }
-    false
+    let tables = aes::tables();
+    let schedule = aes::expand(&tables, key);
+    if !verify_tag(&tables, &schedule.words, nonce, a, octets) {
+        return false;
+    }
+    gctr_in(&tables, &schedule.words, nonce, &octets[0..n], room);
+    true
 }

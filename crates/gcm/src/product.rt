@@ -71,12 +71,10 @@ pub(crate) fn make_multiples(y: Pair) -> [u64; 32]
     ensures { Multiples (pair_number y) result }
 {
     let mut w = [0u64; 32];
-    let mut d: usize = 0;
-    while d < 16 {
+    for d in 0..16 {
         let m = make_multiple(y, d as u64);
         w[2 * d] = m.hi;
         w[2 * d + 1] = m.lo;
-        d += 1;
     }
     w
 }
@@ -111,9 +109,7 @@ pub(crate) fn multiply(w: &[u64], x: Pair) -> Pair
     ensures { (y : ℕ) → Multiples y w.now → pair_number result ≡ product (pair_number x) y }
 {
     let mut z = Pair { hi: 0, lo: 0 };
-    let mut n: u32 = 32;
-    while 0 < n {
-        n -= 1;
+    for n in (0..32).rev() {
         let d = digit_at(x, n);
         z = step(w, z, d);
     }

@@ -35,10 +35,8 @@ fn add_block(m: [u8; 16], c: &[u8], at: usize, end: usize, room: &mut [u8])
     requires { (at ≤ end) × (end ≤ at + 16) × (end ≤ length c.now) × (end ≤ length room.old) }
     ensures { PutsOctets (masked m c.now at) at end room.old room.new }
 {
-    let mut i = at;
-    while i < end {
+    for i in at..end {
         room[i] = c[i] ^ m[i - at];
-        i += 1;
     }
 }
 
@@ -55,17 +53,15 @@ pub fn gctr_in(
     ensures { (key : List ℕ) → Expands key schedule.now →
         room.new ≡ put_at_start (plaintext key nonce.now c.now) room.old }
 {
-    let mut at: usize = 0;
-    let mut n: u64 = 2;
-    while 16 <= c.len() - at {
-        let m = encipher_counter(tables, schedule, nonce, n);
-        let end = at + 16;
-        add_block(block_of(m.hi, m.lo), c, at, end, room);
-        at = end;
-        n += 1;
+    let blocks = c.len() / 16;
+    for i in 0..blocks {
+        let m = encipher_counter(tables, schedule, nonce, 2 + i as u64);
+        let at = 16 * i;
+        add_block(block_of(m.hi, m.lo), c, at, at + 16, room);
     }
+    let at = 16 * blocks;
     if at < c.len() {
-        let m = encipher_counter(tables, schedule, nonce, n);
+        let m = encipher_counter(tables, schedule, nonce, 2 + blocks as u64);
         add_block(block_of(m.hi, m.lo), c, at, c.len(), room);
     }
 }

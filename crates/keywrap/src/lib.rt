@@ -19,21 +19,13 @@ ghost use Rattle.rfc5649.specs.inner.Unwrap.{Unwraps};
 ghost use Rattle.keywrap.specs.inner.Room.{put_answer, put_room};
 
 use aes::{INVERSE_TABLE_WORDS, InverseSchedule, SCHEDULE_WORDS};
-use sizes::{KEY_128, KEY_192, KEY_256, LEAST_WRAPPED, MOST_OCTETS, MOST_WRAPPED, REGISTERS};
+use sizes::{LEAST_WRAPPED, MOST_OCTETS, MOST_WRAPPED, REGISTERS};
 
 // What `open_under` opened: the octets with zeros behind them, and how many they are.
 #[derive(Clone, Copy)]
 pub struct Opened {
     pub octets: [u8; MOST_OCTETS],
     pub count: usize,
-}
-
-// Whether a key can have `count` octets.
-#[tactic(auto, unfolding(fips197::specs::Key::is_key))]
-fn is_key(count: usize) -> bool
-    ensures { result ≡ is_key count }
-{
-    count == KEY_128 || count == KEY_192 || count == KEY_256
 }
 
 // Wraps `octets` under `key` and writes the result at the start of `room`.
@@ -64,7 +56,7 @@ pub fn wrap(key: &[u8], octets: &[u8], room: &mut [u8]) -> Option<usize>
     if room.len() < n {
         return None;
     }
-    if !is_key(key.len()) {
+    if !aes::is_key(key.len()) {
         return None;
     }
     write_wrapped(key, octets, room);
@@ -122,7 +114,7 @@ fn put(octets: &[u8], room: &mut [u8]) -> Option<usize>
 pub fn open(key: &[u8], wrapped: &[u8], room: &mut [u8]) -> Option<usize>
     ensures { OpenAnswers key.now wrapped.now room.old result room.new }
 {
-    if !is_key(key.len()) {
+    if !aes::is_key(key.len()) {
         return None;
     }
     let tables = aes::inverse_tables();

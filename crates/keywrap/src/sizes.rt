@@ -1,12 +1,5 @@
 // The sizes of wrapping (RFC 3394, RFC 5649), for 1 to 256 octets as document 01 takes them.
 
-// The keys of AES-128, AES-192 and AES-256.
-pub(crate) const KEY_128: usize = 16;
-
-pub(crate) const KEY_192: usize = 24;
-
-pub(crate) const KEY_256: usize = 32;
-
 // The most octets that are wrapped, and the registers for them: A, and one for each block of 8.
 pub(crate) const MOST_OCTETS: usize = 256;
 

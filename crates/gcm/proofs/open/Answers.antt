@@ -55,7 +55,7 @@ pub expand-schedule-requires : goal.expand-schedule-requires
 expand-schedule-requires c =
     record {
       tables_value = c.tables-tables.ensures;
-      t = is-so c.is_key.ensures c.if-is_key.true;
+      t = is-so c.is_key.ensures c.if-not-is_key.false;
     }
 
 pub verify_tag-requires : goal.verify_tag-requires
@@ -74,23 +74,23 @@ gctr_in-requires c =
       nonce_len = (omega arith, omega (arith, n), omega (arith, n));
     }
 
-pub returns-then-verify_tag : goal.returns-then-verify_tag
-returns-then-verify_tag c =
-    let a = c.args in
-    open-some a.key.now a.nonce.now a.a.now a.octets.now a.room.now c.verify_tag.result
-    (c.verify_tag.ensures a.key.now c.expand-schedule.ensures)
-    c.if-verify_tag.true
-    (is-so c.is_key.ensures c.if-is_key.true) (omega arith) (omega arith) (omega arith) (omega arith)
-    (c.gctr_in.ensures a.key.now c.expand-schedule.ensures)
+pub returns-then-not-is_key : goal.returns-then-not-is_key
+returns-then-not-is_key c = record { none = λ x h. is-not-so c.is_key.ensures c.if-not-is_key.true h.key-size; room-is = refl }
 
-pub returns-then-is_key : goal.returns-then-is_key
-returns-then-is_key c =
+pub returns-then-not-verify_tag : goal.returns-then-not-verify_tag
+returns-then-not-verify_tag c =
     let a = c.args in
     record {
       none = open_none a.key.now a.nonce.now a.a.now a.octets.now a.room.now c.verify_tag.result
-          (c.verify_tag.ensures a.key.now c.expand-schedule.ensures) c.if-verify_tag.false;
+          (c.verify_tag.ensures a.key.now c.expand-schedule.ensures) c.if-not-verify_tag.true;
       room-is = refl;
     }
 
 pub returns : goal.returns
-returns c = record { none = λ x h. is-not-so c.is_key.ensures c.if-is_key.false h.key-size; room-is = refl }
+returns c =
+    let a = c.args in
+    open-some a.key.now a.nonce.now a.a.now a.octets.now a.room.now c.verify_tag.result
+    (c.verify_tag.ensures a.key.now c.expand-schedule.ensures)
+    c.if-not-verify_tag.false
+    (is-so c.is_key.ensures c.if-not-is_key.false) (omega arith) (omega arith) (omega arith) (omega arith)
+    (c.gctr_in.ensures a.key.now c.expand-schedule.ensures)

@@ -17,52 +17,24 @@ expand_words-w-requires c =
       t = c.requires.t;
     }
 
-pub overflow_add-n : goal.overflow_add-n
-overflow_add-n c = omega arith
-
 pub loop-j-init : goal.loop-j-init
 loop-j-init c =
     let z = sizes (length c.args.key.now) c.requires.t in
-    (omega (arith, z.least), omega (arith, z.most), omega arith, none 61 _ _ refl, blank_none 61)
-
-pub overflow_add-n-in-loop-j : goal.overflow_add-n-in-loop-j
-overflow_add-n-in-loop-j c = omega arith
-
-pub overflow_mul-n : goal.overflow_mul-n
-overflow_mul-n c = omega arith
+    (omega (arith, z.least), omega (arith, z.most), none 61 _ _ refl, blank_none 61)
 
 pub inverse_word-requires : goal.inverse_word-requires
 inverse_word-requires c =
     (omega (arith, decipher-length c.requires.t_value), omega arith, omega arith)
 
-pub offset_bounds-k-j : goal.offset_bounds-k-j
-offset_bounds-k-j c = omega arith
-
-pub bounds-k-j : goal.bounds-k-j
-bounds-k-j c = omega arith
-
-pub overflow_add-j : goal.overflow_add-j
-overflow_add-j c = omega arith
-
-pub loop-j-smaller : goal.loop-j-smaller
-loop-j-smaller c = omega arith
-
 pub loop-j-preserved : goal.loop-j-preserved
 loop-j-preserved c = (
   c.loop-j.invariant.0,
   c.loop-j.invariant.1,
-  omega arith,
-  more c.loop-j.invariant.3 (omega arith) c.inverse_word.ensures,
-  blank-more c.loop-j.k c.loop-j.j _ 61 c.loop-j.invariant.4,
+  more c.loop-j.invariant.2 (omega arith) c.inverse_word.ensures,
+  blank-more c.loop-j.k c.loop-j.j _ 61 c.loop-j.invariant.3,
 )
-
-pub overflow_cast-k : goal.overflow_cast-k
-overflow_cast-k c = omega arith
-
-pub bounds-k-60 : goal.bounds-k-60
-bounds-k-60 c = omega arith
 
 pub returns : goal.returns
 returns c =
-    inverted c.requires.t_value c.expand_words-w.ensures _ c.loop-j.j refl c.loop-j-test.false c.loop-j.invariant.2 c.loop-j.invariant.3
-    c.loop-j.invariant.4
+    inverted c.requires.t_value c.expand_words-w.ensures _ c.loop-j.j refl c.loop-j-test.false (omega arith) c.loop-j.invariant.2
+    c.loop-j.invariant.3

@@ -1,9 +1,6 @@
-use Prim.Native.Nat.{◌-◌, ◌≤◌}
+use Prim.Native.Nat.{◌≤◌}
 use Rattle.aes.specs.inner.Expanding.{ExpandedTo}
 use Rattle.aes.proofs.expansion.key_words.Given as goal
 
 abbrev pub invariant-loop-j : goal.invariant-loop-j
-invariant-loop-j l = (4 ≤ l.nk) × (l.nk ≤ 8) × (l.j ≤ l.nk) × ExpandedTo l.key l.w l.j
-
-abbrev pub decreases-loop-j : goal.decreases-loop-j
-decreases-loop-j l = l.nk - l.j
+invariant-loop-j l = (4 ≤ l.nk) × (l.nk ≤ 8) × ExpandedTo l.key l.w l.j

@@ -3,6 +3,7 @@ use mir.Val.{Fits}
 use Rattle.aes.proofs.Growing.{rotated, subbed, left-long, left-short}
 use borrow.Author.Rules.{rules}
 use Rattle.aes.proofs.expansion.temp_at.Goals as goal
+use Rattle.aes.proofs.expansion.temp_at.Goals.{else-nk-gt6-via-then-nk-gt6+else-p-eq4, else-nk-gt6-via-else-nk-gt6}
 
 -- `aes::expansion::temp_at` meets its contract.
 
@@ -19,12 +20,10 @@ returns-then-p-eq4 c =
     subbed a.t.now a.at c.requires.1 a.nk a.x a.p c.if-p-eq0.false
     c.if-nk-gt6.true c.if-p-eq4.true c.last_column-then-p-eq4.ensures
 
-pub returns-then-nk-gt6 : goal.returns-then-nk-gt6
-returns-then-nk-gt6 c =
-    let a = c.args in
-    left-long a.nk a.x a.p c.if-p-eq0.false c.if-p-eq4.false
-
 pub returns : goal.returns
 returns c =
     let a = c.args in
-    left-short a.nk a.x a.p c.if-p-eq0.false c.if-nk-gt6.false
+    elim c.else-nk-gt6.branch [
+      | else-nk-gt6-via-then-nk-gt6+else-p-eq4 w ↦ left-long a.nk a.x a.p c.if-p-eq0.false w.if-p-eq4.false
+      | else-nk-gt6-via-else-nk-gt6 w ↦ left-short a.nk a.x a.p c.if-p-eq0.false w.if-nk-gt6.false
+    ]

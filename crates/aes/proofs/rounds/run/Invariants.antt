@@ -1,10 +1,7 @@
 use mathlib.Core.Path.{◌≡◌}
-use Prim.Native.Nat.{◌-◌, ◌<◌, ◌≤◌}
+use Prim.Native.Nat.{◌-◌, ◌<◌}
 use Rattle.aes.specs.inner.Rounds.{rounds_up_to}
 use Rattle.aes.proofs.rounds.run.Given as goal
 
 abbrev pub invariant-loop-r : goal.invariant-loop-r
-invariant-loop-r l = (l.n < 15) × (1 ≤ l.r) × (l.r ≤ l.n) × (l.x ≡ rounds_up_to l.t l.k (l.r - 1) l.initial.x)
-
-abbrev pub decreases-loop-r : goal.decreases-loop-r
-decreases-loop-r l = l.n - l.r
+invariant-loop-r l = (l.n < 15) × (l.x ≡ rounds_up_to l.t l.k (l.r - 1) l.initial.x)

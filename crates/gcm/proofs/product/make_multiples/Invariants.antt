@@ -1,10 +1,6 @@
-use Prim.Native.Nat.{◌-◌}
 use Rattle.gcm.specs.inner.Halves.{pair_number}
 use Rattle.gcm.proofs.MultipleLaws.{MultiplesUpTo}
 use Rattle.gcm.proofs.product.make_multiples.Given as goal
 
 abbrev pub invariant-loop-d : goal.invariant-loop-d
 invariant-loop-d l = MultiplesUpTo (pair_number l.y) l.d l.w
-
-abbrev pub decreases-loop-d : goal.decreases-loop-d
-decreases-loop-d l = 16 - l.d

@@ -4,6 +4,3 @@ use Rattle.gcm.proofs.product.multiply.Given as goal
 
 abbrev pub invariant-loop-n : goal.invariant-loop-n
 invariant-loop-n l = Multiplying l.w (pair_number l.x) (pair_number l.z) l.n
-
-abbrev pub decreases-loop-n : goal.decreases-loop-n
-decreases-loop-n l = l.n

@@ -8,47 +8,22 @@ use Rattle.gcm.proofs.stream.add_block.Goals as goal
 -- `gcm::stream::add_block` meets its contract.
 
 pub loop-i-init : goal.loop-i-init
-loop-i-init c =
-    let a = c.args in
-    record {
-      begun = omega arith;
-      inside = omega arith;
-      puts = nothing_put (masked a.m a.c.now a.at) a.at a.room.now;
-    }
-
-pub bounds-c-i : goal.bounds-c-i
-bounds-c-i c = omega arith
-
-pub overflow_sub-room : goal.overflow_sub-room
-overflow_sub-room c = omega arith
-
-pub bounds-m-i : goal.bounds-m-i
-bounds-m-i c = omega arith
+loop-i-init c = let a = c.args in nothing_put (masked a.m a.c.now a.at) a.at a.room.now
 
 pub bounds-room-i : goal.bounds-room-i
-bounds-room-i c = omega (arith, c.loop-i.invariant.puts.size)
-
-pub overflow_add-i : goal.overflow_add-i
-overflow_add-i c = omega arith
-
-pub loop-i-smaller : goal.loop-i-smaller
-loop-i-smaller c = omega arith
+bounds-room-i c = omega (arith, c.loop-i.invariant.size)
 
 pub loop-i-preserved : goal.loop-i-preserved
 unfolding masked
 loop-i-preserved c =
     let a = c.args in
-    record {
-      begun = omega arith;
-      inside = omega arith;
-      puts = one-put (masked a.m a.c.now a.at) a.at a.room.now (omega arith) (omega arith) refl c.loop-i.invariant.puts;
-    }
+    one-put (masked a.m a.c.now a.at) a.at a.room.now (omega arith) (omega arith) refl c.loop-i.invariant
 
 pub shape_of-room : goal.shape_of-room
-shape_of-room c = c.loop-i.invariant.puts.size
+shape_of-room c = c.loop-i.invariant.size
 
 pub returns : goal.returns
 returns c =
     let a = c.args in
     subst (λ (n : ℕ). PutsOctets (masked a.m a.c.now a.at) a.at n a.room.now c.loop-i.room) (omega arith)
-    c.loop-i.invariant.puts
+    c.loop-i.invariant
