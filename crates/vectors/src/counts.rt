@@ -1,14 +1,14 @@
 // Wraps and opens by RFC 5649: its own examples, and every kind of octet count.
 use crate::inputs::{LENT, first, key, plain, written};
-use crate::text::{print, print_case, print_last};
 use std::io;
+use text_names::Hex;
 
 const COUNTS: [usize; 14] = [1, 7, 8, 9, 15, 16, 17, 20, 24, 36, 44, 68, 255, 256];
 
 fn print_written(rt: &impl Print, answer: Option<usize>, room: &[u8]) -> io::Result<()> {
     match answer {
-        None => print(rt, b"no\n"),
-        Some(n) => print_last(rt, first(room, n)),
+        None => println!(rt; "no"),
+        Some(n) => println!(rt; "{}", Hex(first(room, n))),
     }
 }
 
@@ -31,9 +31,9 @@ fn print_opened(rt: &impl Print, key: &[u8], octets: &[u8]) -> io::Result<()> {
 fn example(rt: &impl Print, octets: &[u8]) -> io::Result<()> {
     let key =
         b"\x58\x40\xdf\x6e\x29\xb0\x2a\xf1\xab\x49\x3b\x70\x5b\xf1\x6e\xa1\xae\x83\x38\xf4\xdc\xc1\x76\xa8";
-    print_case(rt, b"rfc5649 ", octets.len(), b" wrap ")?;
+    print!(rt; "rfc5649 {} wrap ", octets.len())?;
     print_wrapped(rt, key, octets)?;
-    print_case(rt, b"rfc5649 ", octets.len(), b" open ")?;
+    print!(rt; "rfc5649 {} open ", octets.len())?;
     print_opened(rt, key, octets)
 }
 
@@ -49,11 +49,9 @@ pub(crate) fn published(rt: &impl Print) -> io::Result<()> {
 fn both_ways(rt: &impl Print, size: usize, count: usize) -> io::Result<()> {
     let key_octets = key(size);
     let octets = plain(count);
-    print_case(rt, b"wrap ", size, b" ")?;
-    print_case(rt, b"", count, b" ")?;
+    print!(rt; "wrap {size} {count} ")?;
     print_wrapped(rt, first(&key_octets, size), first(&octets, count))?;
-    print_case(rt, b"open ", size, b" ")?;
-    print_case(rt, b"", count, b" ")?;
+    print!(rt; "open {size} {count} ")?;
     print_opened(rt, first(&key_octets, size), first(&octets, count))
 }
 

@@ -1,13 +1,11 @@
 // Opens wrappings of 20 octets, damaged, which must not open.
 use crate::inputs::{first, key, wrapped_20};
 use crate::refusals::refused_open;
-use crate::text::{print, print_case, print_octets};
 use std::io;
+use text_names::Hex;
 
-fn damage(rt: &impl Print, size: usize, kind: &[u8], key: &[u8], wrapped: &[u8]) -> io::Result<()> {
-    print_case(rt, b"damage ", size, kind)?;
-    print_octets(rt, wrapped)?;
-    print(rt, b" ")?;
+fn damage(rt: &impl Print, size: usize, kind: &str, key: &[u8], wrapped: &[u8]) -> io::Result<()> {
+    print!(rt; "damage {size} {kind} {} ", Hex(wrapped))?;
     refused_open(rt, key, wrapped)
 }
 
@@ -17,14 +15,14 @@ fn altered(rt: &impl Print, size: usize) -> io::Result<()> {
     let wrapped = wrapped_20(size);
     let mut flipped = wrapped;
     flipped[9] ^= 1;
-    damage(rt, size, b" flipped ", first(&key_octets, size), &flipped)?;
+    damage(rt, size, "flipped", first(&key_octets, size), &flipped)?;
     let mut other = key_octets;
     other[0] ^= 1;
-    damage(rt, size, b" key ", first(&other, size), &wrapped)?;
+    damage(rt, size, "key", first(&other, size), &wrapped)?;
     damage(
         rt,
         size,
-        b" short ",
+        "short",
         first(&key_octets, size),
         first(&wrapped, 24),
     )
@@ -42,10 +40,10 @@ fn initial(
     padding: &[u8],
 ) -> io::Result<()> {
     let key_octets = key(size);
-    damage(rt, size, b" constant ", first(&key_octets, size), constant)?;
-    damage(rt, size, b" small ", first(&key_octets, size), small)?;
-    damage(rt, size, b" large ", first(&key_octets, size), large)?;
-    damage(rt, size, b" padding ", first(&key_octets, size), padding)
+    damage(rt, size, "constant", first(&key_octets, size), constant)?;
+    damage(rt, size, "small", first(&key_octets, size), small)?;
+    damage(rt, size, "large", first(&key_octets, size), large)?;
+    damage(rt, size, "padding", first(&key_octets, size), padding)
 }
 
 // Opens all damaged wrappings, under keys of 16, 24 and 32 octets.

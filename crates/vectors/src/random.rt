@@ -2,9 +2,9 @@
 ghost use Rattle.std.specs.Prelude.{T, length};
 ghost use Rattle.fips197.specs.Key.{is_key};
 
-use crate::text::{print, print_last, print_octets};
 use octets::registers::{be64_at, block_of};
 use std::io;
+use text_names::Hex;
 
 const COUNT: usize = 10000;
 
@@ -39,18 +39,14 @@ fn draw(x: u64) -> Drawn {
 fn print_blocks(rt: &impl Print, key: &[u8], block: [u8; 16]) -> io::Result<()>
     requires { T (is_key (length key.now)) }
 {
-    print(rt, b"random ")?;
-    print_octets(rt, key)?;
-    print(rt, b" ")?;
-    print_octets(rt, &block)?;
     let tables = aes::tables();
     let schedule = aes::expand(&tables, key);
-    print(rt, b" ")?;
-    print_octets(rt, &aes::encrypt(&tables, &schedule.words, block))?;
+    let encrypted = aes::encrypt(&tables, &schedule.words, block);
     let inverse_tables = aes::inverse_tables();
     let inverse = aes::expand_inverse(&inverse_tables, key);
-    print(rt, b" ")?;
-    print_last(rt, &aes::decrypt(&inverse_tables, &inverse.words, block))
+    let decrypted = aes::decrypt(&inverse_tables, &inverse.words, block);
+    print!(rt; "random {} {} ", Hex(key), Hex(&block))?;
+    println!(rt; "{} {}", Hex(&encrypted), Hex(&decrypted))
 }
 
 // Prints the blocks of one turn. The key is the first 16, 24 or 32 octets by `turn`, the block the last 16.

@@ -1,15 +1,16 @@
 // Makes calls that must answer "no" and leave a large room as lent.
 use crate::inputs::LENT;
-use crate::text::{print, print_answer};
+use crate::text::Told;
 use std::io;
 
 // Prints `answer`, and beside it "room changed" where `room` is not as it was lent.
 fn print_refusal(rt: &impl Print, answer: Option<usize>, room: &[u8]) -> io::Result<()> {
-    print_answer(rt, answer)?;
-    if room.iter().all(|octet| *octet == LENT) {
-        return print(rt, b"\n");
-    }
-    print(rt, b", room changed\n")
+    let changed = !room.iter().all(|octet| *octet == LENT);
+    println!(rt;
+        "{}{}",
+        Told(answer),
+        if changed { ", room changed" } else { "" }
+    )
 }
 
 // Opens `wrapped`, and prints the refusal.

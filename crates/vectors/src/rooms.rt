@@ -1,34 +1,36 @@
 // Wraps and opens 20 octets into rooms that are too small by one, exact, and larger than needed. Prints the whole room after each call.
 use crate::inputs::{LENT, first, key, plain, wrapped_20};
-use crate::text::{print, print_answer, print_case, print_last};
+use crate::text::Told;
 use std::io;
+use text_names::Hex;
 
 fn print_line(
     rt: &impl Print,
     size: usize,
-    kind: &[u8],
+    kind: &str,
     answer: Option<usize>,
     room: &[u8],
 ) -> io::Result<()> {
-    print_case(rt, b"room ", size, kind)?;
-    print_case(rt, b"", room.len(), b" ")?;
-    print_answer(rt, answer)?;
-    print(rt, b" ")?;
-    print_last(rt, room)
+    println!(rt;
+        "room {size} {kind} {} {} {}",
+        room.len(),
+        Told(answer),
+        Hex(room)
+    )
 }
 
 fn wrap_into(rt: &impl Print, size: usize, room: &mut [u8]) -> io::Result<()> {
     let key_octets = key(size);
     let octets = plain(20);
     let answer = keywrap::wrap(first(&key_octets, size), first(&octets, 20), room);
-    print_line(rt, size, b" wrap ", answer, room)
+    print_line(rt, size, "wrap", answer, room)
 }
 
 fn open_into(rt: &impl Print, size: usize, room: &mut [u8]) -> io::Result<()> {
     let key_octets = key(size);
     let wrapped = wrapped_20(size);
     let answer = keywrap::open(first(&key_octets, size), &wrapped, room);
-    print_line(rt, size, b" open ", answer, room)
+    print_line(rt, size, "open", answer, room)
 }
 
 // Tries all rooms under a key of `size` octets.

@@ -2,18 +2,15 @@
 // size of the key. Each must open to the published text. The fourth with a bit changed must not open, and the room must stay as lent. A
 // line is printed only where that is not so.
 use crate::inputs::{LENT, first};
-use crate::text::{print, print_case};
 use std::io;
 
-fn print_failed(rt: &impl Print, key: &[u8], name: &[u8], what: &[u8]) -> io::Result<()> {
-    print_case(rt, b"gcm ", key.len(), b" ")?;
-    print(rt, name)?;
-    print(rt, what)
+fn print_failed(rt: &impl Print, key: &[u8], name: &str, what: &str) -> io::Result<()> {
+    println!(rt; "gcm {} {name} {what}", key.len())
 }
 
 fn opens(
     rt: &impl Print,
-    name: &[u8],
+    name: &str,
     key: &[u8],
     nonce: &[u8],
     a: &[u8],
@@ -24,12 +21,12 @@ fn opens(
     if gcm::open(key, nonce, a, octets, &mut room) && first(&room, plain.len()) == plain {
         return Ok(());
     }
-    print_failed(rt, key, name, b" does not open\n")
+    print_failed(rt, key, name, "does not open")
 }
 
 fn refuses(
     rt: &impl Print,
-    name: &[u8],
+    name: &str,
     key: &[u8],
     nonce: &[u8],
     a: &[u8],
@@ -38,12 +35,12 @@ fn refuses(
     let lent = [LENT; 80];
     let mut room = lent;
     if gcm::open(key, nonce, a, octets, &mut room) {
-        return print_failed(rt, key, name, b" opens\n");
+        return print_failed(rt, key, name, "opens");
     }
     if room == lent {
         return Ok(());
     }
-    print_failed(rt, key, name, b" changes the room\n")
+    print_failed(rt, key, name, "changes the room")
 }
 
 // One bit changed: of the nonce, of the additional data, of the ciphertext, of the tag.
@@ -56,16 +53,16 @@ fn damages(
 ) -> io::Result<()> {
     let mut other_nonce = nonce;
     other_nonce[0] ^= 1;
-    refuses(rt, b"nonce", key, &other_nonce, &a, &octets)?;
+    refuses(rt, "nonce", key, &other_nonce, &a, &octets)?;
     let mut other_data = a;
     other_data[19] ^= 128;
-    refuses(rt, b"data", key, &nonce, &other_data, &octets)?;
+    refuses(rt, "data", key, &nonce, &other_data, &octets)?;
     let mut other_text = octets;
     other_text[59] ^= 1;
-    refuses(rt, b"text", key, &nonce, &a, &other_text)?;
+    refuses(rt, "text", key, &nonce, &a, &other_text)?;
     let mut other_tag = octets;
     other_tag[75] ^= 1;
-    refuses(rt, b"tag", key, &nonce, &a, &other_tag)
+    refuses(rt, "tag", key, &nonce, &a, &other_tag)
 }
 
 // The first two cases of a key size: key and nonce are zeros, and so is the text, of which the first has none.
@@ -76,8 +73,8 @@ fn open_zeros(rt: &impl Print, size: usize, c1: &[u8], c2: &[u8]) -> io::Result<
     let none = [0u8; 1];
     let key = first(&zeros, size);
     let empty = first(&none, 0);
-    opens(rt, b"1", key, &nonce, empty, c1, empty)?;
-    opens(rt, b"2", key, &nonce, empty, c2, &plain)
+    opens(rt, "1", key, &nonce, empty, c1, empty)?;
+    opens(rt, "2", key, &nonce, empty, c2, &plain)
 }
 
 // The third and the fourth: the third has no additional data, the fourth a text whose last block is partial.
@@ -86,8 +83,8 @@ fn open_texts(rt: &impl Print, key: &[u8], c3: &[u8], c4: [u8; 76]) -> io::Resul
     let a = *b"\xfe\xed\xfa\xce\xde\xad\xbe\xef\xfe\xed\xfa\xce\xde\xad\xbe\xef\xab\xad\xda\xd2";
     let plain =
         *b"\xd9\x31\x32\x25\xf8\x84\x06\xe5\xa5\x59\x09\xc5\xaf\xf5\x26\x9a\x86\xa7\xa9\x53\x15\x34\xf7\xda\x2e\x4c\x30\x3d\x8a\x31\x8a\x72\x1c\x3c\x0c\x95\x95\x68\x09\x53\x2f\xcf\x0e\x24\x49\xa6\xb5\x25\xb1\x6a\xed\xf5\xaa\x0d\xe6\x57\xba\x63\x7b\x39\x1a\xaf\xd2\x55";
-    opens(rt, b"3", key, &nonce, first(&a, 0), c3, &plain)?;
-    opens(rt, b"4", key, &nonce, &a, &c4, &plain[0..60])?;
+    opens(rt, "3", key, &nonce, first(&a, 0), c3, &plain)?;
+    opens(rt, "4", key, &nonce, &a, &c4, &plain[0..60])?;
     damages(rt, key, nonce, a, c4)
 }
 

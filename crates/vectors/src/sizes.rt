@@ -1,7 +1,6 @@
 // Tries keys, octets and wrappings of sizes that are answered with "no".
 use crate::inputs::{first, key, plain, sequence, wrapped_20};
 use crate::refusals::{refused_open, refused_wrap};
-use crate::text::print_case;
 use std::io;
 
 // Wraps and opens under a key of `size` octets.
@@ -9,9 +8,9 @@ fn key_size(rt: &impl Print, size: usize) -> io::Result<()> {
     let key_octets = key(size);
     let octets = plain(20);
     let wrapped = wrapped_20(16);
-    print_case(rt, b"size key ", size, b" wrap ")?;
+    print!(rt; "size key {size} wrap ")?;
     refused_wrap(rt, first(&key_octets, size), first(&octets, 20))?;
-    print_case(rt, b"size key ", size, b" open ")?;
+    print!(rt; "size key {size} open ")?;
     refused_open(rt, first(&key_octets, size), &wrapped)
 }
 
@@ -19,7 +18,7 @@ fn key_size(rt: &impl Print, size: usize) -> io::Result<()> {
 fn octet_count(rt: &impl Print, count: usize) -> io::Result<()> {
     let key_octets = key(16);
     let octets = plain(count);
-    print_case(rt, b"size octets ", count, b" ")?;
+    print!(rt; "size octets {count} ")?;
     refused_wrap(rt, first(&key_octets, 16), first(&octets, count))
 }
 
@@ -27,34 +26,20 @@ fn octet_count(rt: &impl Print, count: usize) -> io::Result<()> {
 fn wrapped_count(rt: &impl Print, count: usize) -> io::Result<()> {
     let key_octets = key(16);
     let octets = sequence(0, 1);
-    print_case(rt, b"size wrapped ", count, b" ")?;
+    print!(rt; "size wrapped {count} ")?;
     refused_open(rt, first(&key_octets, 16), first(&octets, count))
-}
-
-fn key_sizes(rt: &impl Print) -> io::Result<()> {
-    key_size(rt, 0)?;
-    key_size(rt, 8)?;
-    key_size(rt, 15)?;
-    key_size(rt, 17)?;
-    key_size(rt, 20)?;
-    key_size(rt, 28)?;
-    key_size(rt, 33)
-}
-
-fn wrapped_counts(rt: &impl Print) -> io::Result<()> {
-    wrapped_count(rt, 0)?;
-    wrapped_count(rt, 8)?;
-    wrapped_count(rt, 15)?;
-    wrapped_count(rt, 17)?;
-    wrapped_count(rt, 23)?;
-    wrapped_count(rt, 265)?;
-    wrapped_count(rt, 272)
 }
 
 // Tries all these sizes.
 pub(crate) fn sizes(rt: &impl Print) -> io::Result<()> {
-    key_sizes(rt)?;
-    octet_count(rt, 0)?;
-    octet_count(rt, 257)?;
-    wrapped_counts(rt)
+    for size in [0, 8, 15, 17, 20, 28, 33] {
+        key_size(rt, size)?;
+    }
+    for count in [0, 257] {
+        octet_count(rt, count)?;
+    }
+    for count in [0, 8, 15, 17, 23, 265, 272] {
+        wrapped_count(rt, count)?;
+    }
+    Ok(())
 }
