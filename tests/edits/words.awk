@@ -7,7 +7,7 @@
 BEGIN {
   n = split("Type Unit record let in where module use pub abbrev unfoldable opaque data if then else λ → × ⊥ : = . .. _ [] | -> ()", w, " ")
   for (i = 1; i <= n; i++) built_in["antt", w[i]] = 1
-  n = split("true false if else while return match let mut as u8 u32 u64 usize bool MAX const pub fn use ghost crate self Self", w, " ")
+  n = split("true false if else while return match let mut as u8 u32 u64 usize bool MAX const pub fn use ghost crate self Self for in if Option Some None Result Ok Err", w, " ")
   for (i = 1; i <= n; i++) built_in["rt", w[i]] = 1
   apart["antt"] = "[ \n(){};,]"; apart["rt"] = "[^A-Za-z0-9_.]"
   # projections that no declaration of the repository has: of a reference, and of a pair
