@@ -47,29 +47,16 @@ last_none [] p e = refl
 last_none (l ∷ ls) p e = (subst (λ (b : Bool). Last l.text b ls) e p.1).1
 
 -- ---- a line that has ended
-pub ended-taken : (p : ReaderPlace) (text : List ℕ) (next end : ℕ) (m : Member) (b : Bool) (n : ℕ) → b ≡ true →
-    LineTakes p.member.state (read_line text) b m.state → n ≡ (p.taken + 1) % 2 ^ 64 →
+pub ended-taken : (p : ReaderPlace) (text : List ℕ) (next end : ℕ) (m : Member) (n : ℕ) →
+    LineTakes p.member.state (read_line text) true m.state → n ≡ (p.taken + 1) % 2 ^ 64 →
     LineEnded p text next end (record { place = record { member = m; taken = n; stopped = false; len = 0 }; next = next })
-ended-taken p text next end m b n e t k =
-    record {
-      taken = true;
-      takes = subst (λ (x : Bool). LineTakes p.member.state (read_line text) x m.state) e t;
-      stops = refl;
-      len = refl;
-      by = (omega arith, refl);
-    }
+ended-taken p text next end m n t k =
+    record { taken = true; takes = t; stops = refl; len = refl; by = (omega arith, refl) }
 
-pub ended-stopped : (p : ReaderPlace) (text : List ℕ) (next end : ℕ) (m : Member) (b : Bool) → b ≡ false →
-    LineTakes p.member.state (read_line text) b m.state →
-    LineEnded p text next end (record { place = record { member = m; taken = p.taken; stopped = true; len = 0 }; next = end })
-ended-stopped p text next end m b e t =
-    record {
-      taken = false;
-      takes = subst (λ (x : Bool). LineTakes p.member.state (read_line text) x m.state) e t;
-      stops = refl;
-      len = refl;
-      by = (refl, refl);
-    }
+pub ended-stopped : (p : ReaderPlace) (text : List ℕ) (next end : ℕ) → LineTakes p.member.state (read_line text) false p.member.state →
+    LineEnded p text next end (record { place = record { member = p.member; taken = p.taken; stopped = true; len = 0 }; next = end })
+ended-stopped p text next end t =
+    record { taken = false; takes = t; stops = refl; len = refl; by = (refl, refl) }
 
 -- ---- a part of a block was absorbed
 module _ {block : List ℕ} {from : ℕ} {line : List ℕ} (p : ReaderPlace) (h : from < length block) {after : List ℕ} {a : Absorbed}

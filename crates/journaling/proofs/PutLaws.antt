@@ -1,5 +1,6 @@
 -- A line put to a room's start, from its parts, and what becomes of a step by it.
 use Rattle.std.proofs.Common.{◌≡◌, ℕ, zero, suc, ◌+◌, ◌*◌, ◌/◌, ◌%◌, ◌<◌, ◌≤◌, false, List, [], ◌∷◌, ◌++◌, length, drop, sym, refl, ap, ◌∙◌, subst, inl, inr, append_assoc, arith, length-append, eq-eqb, ne_eqb}
+use Rattle.std.specs.Prelude.{Option, Some, None, Ok, Err}
 use Rattle.octets.specs.Numbers.{oct, octets_of}
 use Rattle.state_keys.specs.Limits.{limits}
 use Rattle.text_rules.specs.Hex.{digit_of, digits_of}
@@ -20,9 +21,9 @@ use Rattle.journal_rules.specs.Line.{is_gsa_rekey, key_read, entry_octets, event
 use Rattle.journal_rules.specs.Write.{Journals, refused, turned-away, too_small, wrote}
 use Rattle.journal_rules.specs.Claims.{KeyFits}
 use Rattle.journal_rules.proofs.Accepting.{accepted-frame}
-use Rattle.journal_rules.proofs.LongLines.{length-entry, length-line}
+use Rattle.journal_rules.proofs.LongLines.{length-entry}
 use Rattle.journaling.specs.Calls.{JournalsStep, JournalsFrame}
-use Rattle.journaling.specs.declared.JournalEntry.TheVariants as entry
+use Rattle.journaling.specs.declared.JournalError.TheVariants as error
 use Rattle.journaling.specs.inner.LinePutting.{text_of, PutsLine, left_out, put-there, Writable, StepTaken}
 
 digits_append : (s t : List ℕ) → digits_of (s ++ t) ≡ digits_of s ++ digits_of t
@@ -35,10 +36,10 @@ length-text o = let a = length-append (digits_of o) (10 ∷ []) in let b = lengt
 
 -- a line that was put finds room, or there was none
 pub line-put : {room after : List ℕ} {n : ℕ} (line : List ℕ) → Put room 0 line after n → length line ≤ length room →
-    PutsLine line room after n
-line-put {room} line p h =
+    PutsLine line room after (Some n)
+line-put {room} {after} {n} line p h =
     let z : 0 + length line ≡ length line = omega arith in
-    put-there (put_next p (omega arith) ∙ z) h (put_whole p (omega arith) ∙ ap (λ (k : ℕ). line ++ drop k room) z)
+    put-there n (put_next p (omega arith) ∙ z) h (put_whole p (omega arith) ∙ ap (λ (k : ℕ). line ++ drop k room) z)
 
 -- ---- the line of an entry
 module _ (key : List ℕ) (tick : ℕ) (frame : List ℕ) where
@@ -63,7 +64,7 @@ module _ (key : List ℕ) (tick : ℕ) (frame : List ℕ) where
   module _ {room r1 r2 r3 r4 after : List ℕ} {a b c d n : ℕ} where
     pub entry-put : (t : List ℕ) → t ≡ octets_of 4 tick → Put room 0 (digits_of (length key ∷ [])) r1 a → Put r1 a (digits_of key) r2 b →
         Put r2 b (digits_of t) r3 c → Put r3 c (digits_of frame) r4 d → Put r4 d (10 ∷ []) after n →
-        2 * (5 + length key + length frame) + 1 ≤ length room → PutsLine (text_of (entry_octets key tick frame)) room after n
+        2 * (5 + length key + length frame) + 1 ≤ length room → PutsLine (text_of (entry_octets key tick frame)) room after (Some n)
     entry-put t e p q r s u h =
         let z = length-of-entry in
         line-put (text_of (entry_octets key tick frame))
@@ -72,29 +73,29 @@ module _ (key : List ℕ) (tick : ℕ) (frame : List ℕ) where
         (omega arith)
 
   pub entry-left-out : (room : List ℕ) → length room < 2 * (5 + length key + length frame) + 1 →
-      PutsLine (text_of (entry_octets key tick frame)) room room 0
-  entry-left-out room h = let z = length-of-entry in left_out refl (omega arith) refl
+      PutsLine (text_of (entry_octets key tick frame)) room room None
+  entry-left-out room h = let z = length-of-entry in left_out (omega arith) refl
 
 -- ---- the lines of the steps
-module _ (frame lent : List ℕ) (tick : ℕ) {room after : List ℕ} {n : ℕ} where
+module _ (frame lent : List ℕ) (tick : ℕ) {room after : List ℕ} {n : Option ℕ} where
   pub frame-line : (key : List ℕ) → key_read frame lent ≡ key → PutsLine (text_of (entry_octets key tick frame)) room after n →
       PutsLine (line_of (handed frame lent tick)) room after n
   unfolding line_of event_octets
   frame-line key e p = rw e p
 
-pub sweep-line : (tick : ℕ) {room after : List ℕ} {n : ℕ} → PutsLine (text_of (entry_octets [] tick [])) room after n →
+pub sweep-line : (tick : ℕ) {room after : List ℕ} {n : Option ℕ} → PutsLine (text_of (entry_octets [] tick [])) room after n →
     PutsLine (line_of (sweep tick)) room after n
 unfolding line_of event_octets
 sweep-line tick p = p
 
 pub leaving-put : {room r1 after : List ℕ} {a n : ℕ} → Put room 0 (digits_of (255 ∷ [])) r1 a → Put r1 a (10 ∷ []) after n →
-    3 ≤ length room → PutsLine (line_of leave) room after n
+    3 ≤ length room → PutsLine (line_of leave) room after (Some n)
 unfolding line_of event_octets
 leaving-put p q h = let z = length-text (255 ∷ []) in line-put (text_of (255 ∷ [])) (put-append p q) (omega arith)
 
-pub leaving-left-out : (room : List ℕ) → length room < 3 → PutsLine (line_of leave) room room 0
+pub leaving-left-out : (room : List ℕ) → length room < 3 → PutsLine (line_of leave) room room None
 unfolding line_of event_octets
-leaving-left-out room h = let z = length-text (255 ∷ []) in left_out refl (omega arith) refl
+leaving-left-out room h = let z = length-text (255 ∷ []) in left_out (omega arith) refl
 
 -- the lent key of a frame, by its exchange
 pub rekey-key : (frame lent : List ℕ) → oct frame 18 ≡ 41 → key_read frame lent ≡ []
@@ -107,18 +108,13 @@ pub other_key : (frame lent : List ℕ) → (oct frame 18 ≡ 41 → ⊥) → ke
 other_key frame lent e = rw (other-rekey frame e)
 
 -- ---- what becomes of a step
-line-some : (x : Event) → 0 < length (line_of x)
-line-some x = let e = length-line x in omega arith
+module _ (m next : Member) (x : Event) (room after : List ℕ) (t : StepTaken m x next) where
+  pub no-room-for : PutsLine (line_of x) room after None →
+      JournalsStep m x room (record { entry = Err error.NoRoom; member = m }) after
+  no-room-for (left_out h a) = rw a (too_small next.state t h)
 
-module _ (m next : Member) (n : ℕ) (x : Event) (room after : List ℕ) (t : StepTaken m x next) where
-  pub no-room-for : n ≡ 0 → PutsLine (line_of x) room after n → JournalsStep m x room (record { entry = entry.NoRoom; member = m }) after
-  no-room-for z (left_out e h a) = rw a (too_small next.state t h)
-  no-room-for z (put-there e h a) = let s = line-some x in absurd (omega arith)
-
-  pub room_for : (n ≡ 0 → ⊥) → PutsLine (line_of x) room after n →
-      JournalsStep m x room (record { entry = entry.Written n; member = next }) after
-  room_for z (left_out e h a) = absurd (z e)
-  room_for z (put-there e h a) = rw (a, e) (wrote next.state t h)
+  pub room_for : {n : ℕ} → PutsLine (line_of x) room after (Some n) → JournalsStep m x room (record { entry = Ok n; member = next }) after
+  room_for (put-there n e h a) = rw (a, e) (wrote next.state t h)
 
 pub swept_step : (m : Member) (tick : ℕ) (next : Member) → next ≡ swept_member tick m → StepTaken m (sweep tick) next
 unfolding swept_member
@@ -153,7 +149,7 @@ module _ (m : Member) (tick : ℕ) (lent frame : List ℕ) (a : Answer) (next : 
   refused_as (suc n) z o room = turned-away frame lent tick n refl o
 
   pub refused-frame : (number_of a ≡ 0 → ⊥) → (room : List ℕ) →
-      JournalsFrame m frame lent tick room (record { entry = entry.Refused a; member = m }) room
+      JournalsFrame m frame lent tick room (record { entry = Err (error.Refused a); member = m }) room
   refused-frame z room =
       let k = refusal-keeps limits m.state tick lent frame (number_of a) next.state r.outcome z in
       record {

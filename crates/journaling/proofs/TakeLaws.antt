@@ -1,7 +1,7 @@
 -- One line over a member: what its octets say, and what the member does with it.
-use Rattle.std.proofs.Common.{◌≡◌, ℕ, zero, suc, ◌+◌, ◌-◌, ◌<◌, ◌≤◌, Bool, true, false, not, ◌&&◌, eqb, leb, List, [], ◌∷◌, length, get_or, take, drop, sym, refl, ap, ◌∙◌, subst, arith, length-take-le, get_or-drop, take_all, eq-eqb, ne_eqb, eqb-true, le-leb, leb-true}
+use Rattle.std.proofs.Common.{◌≡◌, ℕ, zero, suc, ◌+◌, ◌<◌, ◌≤◌, Bool, true, false, not, ◌&&◌, eqb, leb, List, [], ◌∷◌, length, get_or, take, sym, refl, ap, ◌∙◌, subst, arith, length-take-le, get_or-drop, take_all, eq-eqb, ne_eqb, eqb-true, le-leb, leb-true}
+use Rattle.std.specs.Prelude.{Option}
 use borrow.Author.Tests.{lt-leb}
-use lib.Seq.{take-length}
 use Rattle.octets.specs.Walk.{be32}
 use Rattle.state_keys.specs.Limits.{limits}
 use Rattle.lists.proofs.Cases.{lt-cases, and_parts}
@@ -24,7 +24,7 @@ use Rattle.journal_rules.specs.Replay.{WouldRefuse, StopsReading}
 use Rattle.journal_rules.specs.inner.Longest.{longest_octets, longest_digits}
 use Rattle.journal_rules.proofs.Determined.{goes-or-stops}
 use Rattle.journal_rules.proofs.LongLines.{long-stops}
-use Rattle.journaling.specs.inner.LineTaking.{LineTakes}
+use Rattle.journaling.specs.inner.LineTaking.{LineTakes, TakesLine}
 
 -- what a line that is of none of these kinds comes to
 pub takes-other : (s : State) (said : Said) → said ≡ other_kind → LineTakes s said false s
@@ -32,6 +32,9 @@ takes-other s said e = (subst (StopsReading limits s) (sym e) tt, refl)
 
 pub takes-as : (s next : State) (b : Bool) {x y : Said} → x ≡ y → LineTakes s x b next → LineTakes s y b next
 takes-as s next b e p = subst (λ (z : Said). LineTakes s z b next) e p
+
+pub takes-line-as : (s : State) (r : Option Member) {x y : Said} → x ≡ y → TakesLine s x r → TakesLine s y r
+takes-line-as s r e p = subst (λ (z : Said). TakesLine s z r) e p
 
 -- ---- whether octets hand in a frame
 module _ (n : ℕ) (o : List ℕ) where
@@ -107,9 +110,9 @@ module _ (m : Member) (n : ℕ) (o : List ℕ) where
     unfolding said_of
     said-handed q = rw (ne_eqb n 255 no-leaving, q)
 
-    pub handed-taken : (eqb n 0 && eqb (length o) 4) ≡ false → (b : Bool) (next : State) → LineTakes m.state (handed_by n o) b next →
-        LineTakes m.state (said_of (n ∷ o)) b next
-    handed-taken q b next p = takes-as m.state next b (said-handed q) p
+    pub handed-taken : (eqb n 0 && eqb (length o) 4) ≡ false → (r : Option Member) → TakesLine m.state (handed_by n o) r →
+        TakesLine m.state (said_of (n ∷ o)) r
+    handed-taken q r p = takes-line-as m.state r (said-handed q) p
 
     pub none-handed : (eqb n 0 && eqb (length o) 4) ≡ false → hands_in n o ≡ false →
         LineTakes m.state (said_of (n ∷ o)) false m.state
@@ -122,10 +125,9 @@ no-octets-said s (n ∷ o) e = absurd (omega arith)
 
 -- ---- a text
 module _ (s : State) (text : List ℕ) where
-  pub text-taken : is_hex text ≡ true → (b : Bool) (next : State) → LineTakes s (said_of (octets_of_hex text)) b next →
-      LineTakes s (read_line text) b next
+  pub text-taken : is_hex text ≡ true → (r : Option Member) → TakesLine s (said_of (octets_of_hex text)) r → TakesLine s (read_line text) r
   unfolding read_line
-  text-taken h b next p = rw h p
+  text-taken h r p = rw h p
 
   pub text-other : is_hex text ≡ false → LineTakes s (read_line text) false s
   unfolding read_line
@@ -160,10 +162,3 @@ takes-kept {line} {len} {text} p l s b next t =
     let e = ap length p.same in
     takes-long s (take len line) text (omega arith) (omega arith) b next t)
     (λ h. takes-as s next b (ap read_line (p.same ∙ take_all (length line) text h)) t)
-
--- the first octet of a line and those behind it
-pub first-octet : (o : List ℕ) (n : ℕ) → n ≡ get_or o 0 0 → 0 < length o → n ∷ take (length o - 1) (drop 1 o) ≡ o
-first-octet [] n e h = absurd (omega arith)
-first-octet (a ∷ o) n e h =
-    let z : length (a ∷ o) - 1 ≡ length o = omega arith in
-    ap (λ (k : ℕ). n ∷ take k o) z ∙ ap (λ (l : List ℕ). n ∷ l) (take-length o) ∙ ap (λ (k : ℕ). k ∷ o) e

@@ -14,7 +14,7 @@ use gikev2::Member;
 const KEPT: usize = 33287;
 
 // Where a reader stands: the member; how many lines were taken, modulo 2^64; whether a line stopped it; how many characters of the line
-// that has begun are held.
+// that has begun are held. Kept as a flag: a reader that a line stopped still has its member and its count.
 #[derive(Clone, Copy)]
 pub struct ReaderPlace {
     pub member: Member,
@@ -58,26 +58,21 @@ fn line_ended(p: ReaderPlace, line: &[u8], next: usize, end: usize, room: &mut [
     requires { longest_octets ≤ length room.old }
     ensures { LineEnded p line.now next end result }
 {
-    let m = p.member;
-    let t = taking::take_line(m, line, room);
-    let member = t.member;
-    if t.taken {
-        let taken = std::num::wrapping_add_usize(p.taken, 1);
+    let Some(member) = taking::take_line(p.member, line, room) else {
         let place = ReaderPlace {
-            member,
-            taken,
-            stopped: false,
+            stopped: true,
             len: 0,
+            ..p
         };
-        return Advanced { place, next };
-    }
+        return Advanced { place, next: end };
+    };
     let place = ReaderPlace {
         member,
-        taken: p.taken,
-        stopped: true,
+        taken: p.taken.wrapping_add(1),
+        stopped: false,
         len: 0,
     };
-    Advanced { place, next: end }
+    Advanced { place, next }
 }
 
 // Reads `block` from `from` on up to the end of a line, and takes that line. If the block ends before it, keeps its beginning in `line`.
@@ -95,17 +90,11 @@ fn advance(p: ReaderPlace, block: &[u8], from: usize, line: &mut [u8], room: &mu
     if a.ended {
         return line_ended(p, &line[..len], next, block.len(), room);
     }
-    let member = p.member;
-    let place = ReaderPlace {
-        member,
-        taken: p.taken,
-        stopped: p.stopped,
-        len,
-    };
+    let place = ReaderPlace { len, ..p };
     Advanced { place, next }
 }
 
-// Reads the whole `block`, line by line.
+// Reads the whole `block`, line by line. Kept as a loop: a line's end, and not a count, says where the next one begins.
 fn read_block(p: ReaderPlace, block: &[u8], line: &mut [u8], room: &mut [u8]) -> ReaderPlace
     requires { Ready line.old room.old p }
     ensures { (s : State) → (n : ℕ) → (text : List ℕ) → Far s n text block.now p line.old 0 →
@@ -115,8 +104,7 @@ fn read_block(p: ReaderPlace, block: &[u8], line: &mut [u8], room: &mut [u8]) ->
     let mut at = 0;
     while at < block.len() {
         let a = advance(x, block, at, line, room);
-        let place = a.place;
-        x = place;
+        x = a.place;
         at = a.next;
     }
     x
@@ -126,10 +114,7 @@ fn read_block(p: ReaderPlace, block: &[u8], line: &mut [u8], room: &mut [u8]) ->
 fn within(len: usize) -> usize
     ensures { result ≡ min len 33287 }
 {
-    if KEPT < len {
-        return KEPT;
-    }
-    len
+    len.min(KEPT)
 }
 
 // Reads the next `block` of a journal. A reader that a line stopped stays as it is.
@@ -142,12 +127,9 @@ pub fn feed(r: JournalReader, block: &[u8]) -> JournalReader
     }
     let mut line = r.line;
     let mut room = [0u8; LONGEST_OCTETS];
-    let member = p.member;
     let start = ReaderPlace {
-        member,
-        taken: p.taken,
-        stopped: false,
         len: within(p.len),
+        ..p
     };
     let place = read_block(start, block, &mut line, &mut room);
     JournalReader { place, line }
@@ -160,7 +142,7 @@ pub fn finish(r: JournalReader) -> Replayed
     let p = r.place;
     let member = p.member;
     if p.stopped {
-        let line = std::num::wrapping_add_usize(p.taken, 1);
+        let line = p.taken.wrapping_add(1);
         return Replayed { member, line };
     }
     Replayed { member, line: 0 }

@@ -4,7 +4,7 @@ ghost use Rattle.std.specs.Prelude.{◌≡◌, ◌+◌, ◌<◌, ◌≤◌, true
 ghost use Rattle.text_rules.specs.Hex.{is_hex};
 ghost use Rattle.journal_rules.specs.Line.{tick_octets, hands_in, handed_by, said_of, read_line};
 ghost use Rattle.journal_rules.specs.inner.Longest.{longest_octets, longest_digits};
-ghost use Rattle.journaling.specs.inner.LineTaking.{LineTakes};
+ghost use Rattle.journaling.specs.inner.LineTaking.{TakesLine};
 
 use gikev2::Member;
 use ikev2_numbers::{EXCHANGE_AT, GSA_REKEY, HEADER};
@@ -20,13 +20,6 @@ const LEAVING: usize = 255;
 pub(crate) const LONGEST_OCTETS: usize = 16643;
 
 pub(crate) const LONGEST_DIGITS: usize = 33286;
-
-// The next member, and whether the line was taken. If not, that is the member as it was.
-#[derive(Clone, Copy)]
-pub struct LineTaken {
-    pub member: Member,
-    pub taken: bool,
-}
 
 // Whether the octets `o` behind a key length `n` are a tick alone, with no key and no frame.
 fn is_sweep(n: usize, o: &[u8]) -> bool
@@ -50,90 +43,61 @@ fn hands_in(n: usize, o: &[u8]) -> bool
     n != 0
 }
 
-// Hands the frame in `o` to the member, with the key of `n` octets and the tick before it.
-fn take_frame(member: Member, n: usize, o: &[u8]) -> LineTaken
+// Hands the frame in `o` to the member, with the key of `n` octets and the tick before it. Answers the next member, here and below: `None`
+// where the line cannot be taken.
+fn take_frame(member: Member, n: usize, o: &[u8]) -> Option<Member>
     requires { hands_in n o.now ≡ true }
-    ensures { LineTakes member.state (handed_by n o.now) result.taken result.member.state }
+    ensures { TakesLine member.state (handed_by n o.now) result }
 {
     let behind = n + TICK;
     let tick = be32_at(o, n);
     let x = member.receive(&o[behind..], &o[0..n], tick);
     let answer = x.answer;
-    let number = answer.number();
-    if number == 0 {
-        let next = x.member;
-        return LineTaken {
-            member: next,
-            taken: true,
-        };
+    if answer.number() != 0 {
+        return None;
     }
-    LineTaken {
-        member,
-        taken: false,
-    }
+    Some(x.member)
 }
 
 // Takes what the octet `n` says with the octets `o` behind it.
-fn take_entry(member: Member, n: usize, o: &[u8]) -> LineTaken
+fn take_entry(member: Member, n: usize, o: &[u8]) -> Option<Member>
     requires { n < 256 }
-    ensures { LineTakes member.state (said_of (n ∷ o.now)) result.taken result.member.state }
+    ensures { TakesLine member.state (said_of (n ∷ o.now)) result }
 {
     if n == LEAVING {
-        if o.len() == 0 {
-            let next = member.leave();
-            return LineTaken {
-                member: next,
-                taken: true,
-            };
+        if o.len() != 0 {
+            return None;
         }
-        return LineTaken {
-            member,
-            taken: false,
-        };
+        return Some(member.leave());
     }
     if is_sweep(n, o) {
-        let next = member.sweep(be32_at(o, 0));
-        return LineTaken {
-            member: next,
-            taken: true,
-        };
+        return Some(member.sweep(be32_at(o, 0)));
     }
     if hands_in(n, o) {
         return take_frame(member, n, o);
     }
-    LineTaken {
-        member,
-        taken: false,
-    }
+    None
 }
 
 // Takes what octets say.
-fn take_octets(member: Member, o: &[u8]) -> LineTaken
-    ensures { LineTakes member.state (said_of o.now) result.taken result.member.state }
+fn take_octets(member: Member, o: &[u8]) -> Option<Member>
+    ensures { TakesLine member.state (said_of o.now) result }
 {
-    if 0 < o.len() {
-        let n = octets::wide(o[0]);
-        return take_entry(member, n, &o[1..]);
-    }
-    LineTaken {
-        member,
-        taken: false,
-    }
+    let (n, behind) = o.split_first()?;
+    take_entry(member, octets::wide(*n), behind)
 }
 
 // Takes the line with this `text`, without its newline. Its octets go to the start of `room`.
-pub(crate) fn take_line(member: Member, text: &[u8], room: &mut [u8]) -> LineTaken
+pub(crate) fn take_line(member: Member, text: &[u8], room: &mut [u8]) -> Option<Member>
     requires { longest_octets ≤ length room.old }
-    ensures { LineTakes member.state (read_line text.now) result.taken result.member.state }
+    ensures { TakesLine member.state (read_line text.now) result }
 {
-    if text.len() <= LONGEST_DIGITS {
-        if text_lines::is_hex(text) {
-            let n = text_lines::put_octets(room, 0, text);
-            return take_octets(member, &room[..n]);
-        }
+    if LONGEST_DIGITS < text.len() {
+        return None;
     }
-    LineTaken {
-        member,
-        taken: false,
+    if !text_lines::is_hex(text) {
+        return None;
     }
+    let n = text_lines::put_octets(room, 0, text);
+    take_octets(member, &room[..n])
 }

@@ -5,7 +5,7 @@ use Rattle.text_rules.specs.Transcript.{Replies}
 use Rattle.text_lines.specs.inner.Room.{reply_room, Put}
 use Rattle.text_lines.specs.inner.Calls.{Asks}
 use Rattle.text_lines.specs.declared.LineKey.{LineKey}
-use Rattle.text_lines.specs.declared.Request.TheVariants as request
+use Rattle.std.specs.Prelude.{Some, None}
 use Rattle.text_lines.proofs.AnswerLaws.{answer-short}
 use Rattle.text_lines.proofs.CallLaws.{reply-bad, reply-frame, key-short, given-length}
 use Rattle.text_lines.proofs.RoomLaws.{length-put, put_as}
@@ -55,7 +55,7 @@ module _ (r : Running) {out after : List ℕ} where
         len = refl;
       }
 
-  pub later-bad : {at : ℕ} (line : List ℕ) {room room' : List ℕ} → Asks line room room' request.Bad → Put out r.at bad_text after at
+  pub later-bad : {at : ℕ} (line : List ℕ) {room room' : List ℕ} → Asks line room room' None → Put out r.at bad_text after at
       → LaterLine r line out after (placed r r.member at)
   later-bad line p q =
       record {
@@ -68,7 +68,7 @@ module _ (r : Running) {out after : List ℕ} where
         len = refl;
       }
 
-  pub later-frame : (line : List ℕ) {room room' : List ℕ} {tick len : ℕ} (e : Running) → Asks line room room' (request.Frame tick len)
+  pub later-frame : (line : List ℕ) {room room' : List ℕ} {tick len : ℕ} (e : Running) → Asks line room room' (Some (record { tick = tick; len = len }))
       → 16384 ≤ length room → LineReceived r tick (take len room') out after e → LaterLine r line out after e
   later-frame line e p h q =
       let o = q.outcome in

@@ -41,17 +41,8 @@ fn emptied(to: Stdout, r: Running, handed: Handed, out: &[u8]) -> Progress
 {
     let at = r.at;
     let written = output::hand_over(to, handed, out, at);
-    let member = r.member;
-    let key = r.key;
-    let running = Running {
-        member,
-        key,
-        keyed: r.keyed,
-        len: r.len,
-        at: 0,
-    };
     Progress {
-        running,
+        running: Running { at: 0, ..r },
         handed: written,
     }
 }

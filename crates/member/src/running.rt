@@ -12,7 +12,7 @@ ghost use Rattle.member.specs.inner.Standing.{BuffersReady, ReplyFits, Stands, S
 
 use gikev2::Member;
 use gikev2::call::Answer;
-use text_lines::{LineKey, REPLY_ROOM, Request};
+use text_lines::{LineKey, REPLY_ROOM};
 
 // Where the program stands: the member; the default key, and whether the first line has given it yet (`keyed`); how many characters of the
 // line that has begun are held (`len`); the place in the output (`at`).
@@ -44,14 +44,11 @@ pub(crate) fn begin() -> Running
 fn first_line(r: Running, line: &[u8]) -> Running
     ensures { (out : List ℕ) → FirstLine r line.now out out result }
 {
-    let member = r.member;
-    let key = text_lines::key_line(line);
     Running {
-        member,
-        key,
+        key: text_lines::key_line(line),
         keyed: true,
         len: 0,
-        at: r.at,
+        ..r
     }
 }
 
@@ -76,15 +73,13 @@ fn receive_frame(r: Running, frame: &[u8], tick: u32, out: &mut [u8]) -> Running
     let len = key.len;
     let x = m.receive(frame, &octets[..len], tick);
     let member = x.member;
-    let answer = x.answer;
     let state = member.state;
-    let at = put_reply(out, r.at, answer, state.table.count, state.held.count);
+    let at = put_reply(out, r.at, x.answer, state.table.count, state.held.count);
     Running {
         member,
-        key,
-        keyed: r.keyed,
         len: 0,
         at,
+        ..r
     }
 }
 
@@ -95,19 +90,11 @@ fn later_line(r: Running, line: &[u8], room: &mut [u8], out: &mut [u8]) -> Runni
     ensures { LaterLine r line.now out.old out.new result }
 {
     match text_lines::later_line(line, room) {
-        Request::Bad => {
-            let member = r.member;
-            let key = r.key;
-            let next = text_lines::put_bad(out, r.at);
-            Running {
-                member,
-                key,
-                keyed: r.keyed,
-                len: 0,
-                at: next,
-            }
+        None => {
+            let at = text_lines::put_bad(out, r.at);
+            Running { len: 0, at, ..r }
         }
-        Request::Frame { tick, len } => receive_frame(r, &room[..len], tick, out),
+        Some(asked) => receive_frame(r, &room[..asked.len], asked.tick, out),
     }
 }
 
@@ -153,15 +140,7 @@ fn advance(
         let running = answer_line(r, &line[..len], room, out);
         return LinePassed { running, next };
     }
-    let member = r.member;
-    let key = r.key;
-    let running = Running {
-        member,
-        key,
-        keyed: r.keyed,
-        len,
-        at: r.at,
-    };
+    let running = Running { len, ..r };
     LinePassed { running, next }
 }
 
@@ -184,8 +163,7 @@ pub(crate) fn through(
     let mut at = from;
     while at < block.len() && REPLY_ROOM <= out.len() - x.at {
         let p = advance(x, block, at, line, room, out);
-        let running = p.running;
-        x = running;
+        x = p.running;
         at = p.next;
     }
     LinePassed {
@@ -203,8 +181,8 @@ pub(crate) fn finish(r: Running, line: &[u8], room: &mut [u8], out: &mut [u8]) -
         Finishes LineAnswers x (printed ++ take result.at out.new) }
 {
     let len = r.len;
-    if 0 < len {
-        return answer_line(r, &line[..len], room, out);
+    if len == 0 {
+        return r;
     }
-    r
+    answer_line(r, &line[..len], room, out)
 }

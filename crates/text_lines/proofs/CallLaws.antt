@@ -5,13 +5,13 @@ use mathlib.Core.List.{List, [], ◌∷◌}
 use native.Mathlib.Omega.{arith}
 use lib.ListN.{length, take, drop, length-drop}
 use Rattle.lists.proofs.Cases.{bool_cases}
+use Rattle.std.specs.Prelude.{Some, None}
 use Rattle.text_rules.specs.Hex.{octets_of_hex}
 use Rattle.text_rules.specs.Input.{Asked, is_taken, line_key, frame, asked_by}
 use Rattle.text_rules.specs.Answer.{bad_text}
 use Rattle.text_rules.specs.Transcript.{CallRelation, LineOutcome, told, RepliesTo, Replies}
 use Rattle.text_lines.specs.inner.Calls.{KeyLineGives, Asks}
 use Rattle.text_lines.specs.declared.LineKey.{LineKey}
-use Rattle.text_lines.specs.declared.Request.TheVariants as request
 use Rattle.text_rules.proofs.InputLaws.{taken-bounds, key-taken, key-other, asked-other}
 use Rattle.text_lines.proofs.RoomLaws.{length-put, put_next, put-taken}
 
@@ -52,7 +52,7 @@ frame-short line tick octets q =
 
 -- the frame of a later line is the first octets of a room that has 16,384
 module _ (line : List ℕ) {room after : List ℕ} {tick len : ℕ}
-    (p : Asks line room after (request.Frame tick len)) (h : 16384 ≤ length room) where
+    (p : Asks line room after (Some (record { tick = tick; len = len }))) (h : 16384 ≤ length room) where
   pub asked-frame : take len after ≡ octets_of_hex (drop 8 line)
   asked-frame = let s = frame-short line tick (octets_of_hex (drop 8 line)) p.0 in put-taken p.1 (omega arith)
 
@@ -61,10 +61,10 @@ module _ (line : List ℕ) {room after : List ℕ} {tick len : ℕ}
 
 -- what the program does with a later line is what the line asks
 module _ {S : Type 0} (step : CallRelation S) (key : List ℕ) (member : S) (line : List ℕ) {room after : List ℕ} where
-  pub reply-bad : Asks line room after request.Bad → Replies step key member line (record { next = member; text = bad_text })
+  pub reply-bad : Asks line room after None → Replies step key member line (record { next = member; text = bad_text })
   reply-bad p = subst (λ (x : Asked). RepliesTo step key member x (record { next = member; text = bad_text })) (sym p.0) refl
 
-  pub reply-frame : {tick len : ℕ} (o : LineOutcome S) → Asks line room after (request.Frame tick len) → 16384 ≤ length room
+  pub reply-frame : {tick len : ℕ} (o : LineOutcome S) → Asks line room after (Some (record { tick = tick; len = len })) → 16384 ≤ length room
       → step member key tick (take len after) o → Replies step key member line (told o)
   reply-frame {tick} o p h q =
       subst (λ (x : Asked). RepliesTo step key member x (told o)) (sym p.0)

@@ -1,11 +1,12 @@
 -- Laws of lines: the first one of what is left of a block, and what a call that takes it promises.
-use Prim.Native.Nat.{ℕ, ◌+◌, ◌<◌, ◌≤◌}
+use Prim.Native.Nat.{ℕ, ◌+◌, ◌<◌, ◌≤◌, max}
 use mathlib.Core.Path.{◌≡◌, refl, ap, sym, ◌∙◌}
 use mathlib.Core.List.{List, [], ◌∷◌, ◌++◌}
 use mathlib.Core.Bool.{true, false}
 use native.Mathlib.Omega.{arith}
 use lib.ListN.{length, drop, get_or, drop_of_length-le}
 use borrow.Author.Tests.{eq-eqb, ne_eqb}
+use Rattle.lists.proofs.Cases.{lt-cases}
 use Rattle.text_rules.specs.Lines.{Line, prepend_character, lines}
 use Rattle.text_lines.specs.inner.First.{line_octets, first_of}
 use Rattle.text_lines.specs.inner.Room.{Put}
@@ -123,3 +124,13 @@ module _ {block : List ℕ} {from : ℕ} {line : List ℕ} {len : ℕ} {now : Li
         next = omega (arith, p.next);
         kept = puts-done p.text (ap (λ (l : Line). l.text) e);
       }
+
+  -- where the loop has come to at the block's end
+  pub ends-at : length block ≤ at → (from ≤ length block → at ≤ length block) → (m : ℕ) → m ≡ max from (length block) → m ≡ at
+  unfolding line_octets
+  ends-at h b m e =
+      lt-cases from (length block) (λ l. let k : at ≤ length block = b (omega arith) in omega (arith, e))
+      (λ g.
+      let x = ap (λ (l : Line). length (line_octets l)) (first-none block at h) in
+      let y = ap (λ (l : Line). length (line_octets l)) (first-none block from g) in
+      omega (arith, p.next, e))

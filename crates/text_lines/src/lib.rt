@@ -57,11 +57,9 @@ fn are_digits(text: &[u8]) -> bool
     ensures { result ≡ are_digits text.now }
 {
     let mut so_far = true;
-    let mut i = 0;
-    while i < text.len() {
-        let one = is_digit(text[i]);
-        so_far = so_far & one;
-        i += 1;
+    for c in text {
+        let one = is_digit(*c);
+        so_far &= one;
     }
     so_far
 }
@@ -70,10 +68,7 @@ fn are_digits(text: &[u8]) -> bool
 pub fn is_hex(text: &[u8]) -> bool
     ensures { result ≡ is_hex text.now }
 {
-    if are_digits(text) {
-        return text.len() % 2 == 0;
-    }
-    false
+    are_digits(text) && text.len() % 2 == 0
 }
 
 // Reads the digits `text[i]` and `text[i + 1]` as an octet, the higher digit first.
@@ -88,14 +83,7 @@ fn octet_at(text: &[u8], i: usize) -> u8
 fn fitting(n: usize, at: usize, size: usize) -> usize
     ensures { result ≡ min n (size - at) }
 {
-    if at < size {
-        let left = size - at;
-        if left < n {
-            return left;
-        }
-        return n;
-    }
-    0
+    n.min(size.saturating_sub(at))
 }
 
 // Writes the octets of the hexadecimal `text` into `room` from `at` on, as many as find room. Answers the place behind them. Their number
@@ -104,10 +92,8 @@ pub fn put_octets(room: &mut [u8], at: usize, text: &[u8]) -> usize
     ensures { Put room.old at (octets_of_hex text.now) room.new result }
 {
     let n = fitting(text.len() / 2, at, room.len());
-    let mut k: usize = 0;
-    while k < n {
+    for k in 0..n {
         room[at + k] = octet_at(text, 2 * k);
-        k += 1;
     }
     at + n
 }
@@ -125,16 +111,14 @@ pub fn put_digits(room: &mut [u8], at: usize, octets: &[u8]) -> usize
     ensures { Put room.old at (digits_of octets.now) room.new result }
 {
     let mut place = at;
-    let mut i = 0;
-    while i < octets.len() {
-        place = put_octet(room, place, octets[i]);
-        i += 1;
+    for octet in octets {
+        place = put_octet(room, place, *octet);
     }
     place
 }
 
 // What `absorb` took from a block: the place behind it (`next`), how many characters the lent line holds now (`len`), and whether a newline
-// ended the line (`ended`).
+// ended the line (`ended`). Kept as a flag: the place and the count stand whether or not the line ended.
 #[derive(Clone, Copy)]
 pub struct Absorbed {
     pub next: usize,
@@ -147,9 +131,8 @@ pub struct Absorbed {
 pub fn absorb(block: &[u8], from: usize, line: &mut [u8], len: usize) -> Absorbed
     ensures { Absorbs block.now from line.old len line.new result }
 {
-    let mut at = from;
     let mut held = len;
-    while at < block.len() {
+    for at in from..block.len() {
         let c = block[at];
         if c == b'\n' {
             return Absorbed {
@@ -159,10 +142,9 @@ pub fn absorb(block: &[u8], from: usize, line: &mut [u8], len: usize) -> Absorbe
             };
         }
         held = put(line, held, c);
-        at += 1;
     }
     Absorbed {
-        next: at,
+        next: from.max(block.len()),
         len: held,
         ended: false,
     }
@@ -172,13 +154,7 @@ pub fn absorb(block: &[u8], from: usize, line: &mut [u8], len: usize) -> Absorbe
 fn is_taken(text: &[u8], least: usize, most: usize) -> bool
     ensures { result ≡ is_taken least most text.now }
 {
-    if text.len() < least {
-        return false;
-    }
-    if most < text.len() {
-        return false;
-    }
-    is_hex(text)
+    least <= text.len() && text.len() <= most && is_hex(text)
 }
 
 // A tick has 8 digits, 32 bits; a line at most these and two for each octet of the largest frame. A key has at most 32 octets.
@@ -202,11 +178,11 @@ pub fn key_line(line: &[u8]) -> LineKey
     ensures { KeyLineGives line.now result }
 {
     let mut octets = [0u8; MOST_KEY_OCTETS];
-    if is_taken(line, 0, MOST_KEY_DIGITS) {
-        let len = put_octets(&mut octets, 0, line);
-        return LineKey { octets, len };
+    if !is_taken(line, 0, MOST_KEY_DIGITS) {
+        return LineKey { octets, len: 0 };
     }
-    LineKey { octets, len: 0 }
+    let len = put_octets(&mut octets, 0, line);
+    LineKey { octets, len }
 }
 
 // Reads the first 8 digits of `text` as a number.
@@ -214,31 +190,31 @@ fn tick_of(text: &[u8]) -> u32
     requires { 8 ≤ length text.now }
     ensures { result ≡ number_from 0 (take 8 text.now) }
 {
-    let a = octet_at(text, 0) as u32;
-    let b = octet_at(text, 2) as u32;
-    let c = octet_at(text, 4) as u32;
-    let d = octet_at(text, 6) as u32;
-    ((a * 256 + b) * 256 + c) * 256 + d
+    let a = octet_at(text, 0);
+    let b = octet_at(text, 2);
+    let c = octet_at(text, 4);
+    let d = octet_at(text, 6);
+    u32::from_be_bytes([a, b, c, d])
 }
 
-// What a later line asks: nothing that can be answered (`Bad`), or the answer to a frame at a tick. The frame is the first `len` octets of
-// a lent room.
+// What a later line asks: the answer to a frame at a tick. The frame is the first `len` octets of a lent room.
 #[derive(Clone, Copy)]
-pub enum Request {
-    Bad,
-    Frame { tick: u32, len: usize },
+pub struct Request {
+    pub tick: u32,
+    pub len: usize,
 }
 
-// Reads a later line: a tick of 8 digits, and a frame. Writes the frame to the start of `room`; a room of 16,384 octets holds every frame.
-pub fn later_line(line: &[u8], room: &mut [u8]) -> Request
+// Reads a later line: a tick of 8 digits, and a frame; `None` for a bad line. Writes the frame to the start of `room`; a room of 16,384
+// octets holds every frame.
+pub fn later_line(line: &[u8], room: &mut [u8]) -> Option<Request>
     ensures { Asks line.now room.old room.new result }
 {
-    if is_taken(line, TICK_DIGITS, MOST_DIGITS) {
-        let tick = tick_of(line);
-        let len = put_octets(room, 0, &line[TICK_DIGITS..]);
-        return Request::Frame { tick, len };
+    if !is_taken(line, TICK_DIGITS, MOST_DIGITS) {
+        return None;
     }
-    Request::Bad
+    let tick = tick_of(line);
+    let len = put_octets(room, 0, &line[TICK_DIGITS..]);
+    Some(Request { tick, len })
 }
 
 // Octets enough for the text of any answer: four numbers of at most 20 digits, with a mark behind each.

@@ -65,7 +65,7 @@ fn lend(t: &mut Traced, digits: &[u8], w: &mut impl Write) -> fmt::Result {
 fn sweep(t: &mut Traced, digits: &[u8], w: &mut impl Write) -> fmt::Result {
     let mut room = [0; OCTETS];
     match text_lines::later_line(digits, &mut room) {
-        Request::Frame { tick, len: 0 } => {
+        Some(Request { tick, len: 0 }) => {
             if t.journaled {
                 return put_swept(t, tick, w);
             }
@@ -134,8 +134,8 @@ fn begin_journal(t: &mut Traced, rest: &[u8], w: &mut impl Write) -> fmt::Result
 fn receive(t: &mut Traced, line: &[u8], w: &mut impl Write) -> fmt::Result {
     let mut room = [0; OCTETS];
     match text_lines::later_line(line, &mut room) {
-        Request::Bad => put_bad(w),
-        Request::Frame { tick, len } => {
+        None => put_bad(w),
+        Some(Request { tick, len }) => {
             let frame = part(&room, 0, len);
             if t.journaled {
                 return put_received(t, frame, tick, w);

@@ -3,19 +3,24 @@ use crate::calls::put_answer;
 use crate::text::part;
 use crate::traced::Traced;
 use gikev2::Member;
-use journaling::{JournalEntry, Journaled, LINE_ROOM};
+use journaling::{JournalError, Journaled, LINE_ROOM};
 use std::fmt::Write;
 use std::{fmt, str};
 
 // Puts a journaled step: `accepted` is what it prints first where it took effect; then its line stands at the start of `room`.
-fn put_entry(w: &mut impl Write, e: JournalEntry, accepted: &str, room: &[u8]) -> fmt::Result {
+fn put_entry(
+    w: &mut impl Write,
+    e: Result<usize, JournalError>,
+    accepted: &str,
+    room: &[u8],
+) -> fmt::Result {
     match e {
-        JournalEntry::Written(n) => {
+        Ok(n) => {
             writeln!(w, "{accepted}")?;
             put_line(w, part(room, 0, n))
         }
-        JournalEntry::NoRoom => writeln!(w, "no room"),
-        JournalEntry::Refused(a) => put_answer(w, "answer", a),
+        Err(JournalError::NoRoom) => writeln!(w, "no room"),
+        Err(JournalError::Refused(a)) => put_answer(w, "answer", a),
     }
 }
 
@@ -73,7 +78,7 @@ pub(crate) fn put_opened(
     let mut room = [0; LINE_ROOM];
     let j = journaling::receive(before, frame, b"", tick, &mut room);
     match j.entry {
-        JournalEntry::Written(n) => put_line(w, part(&room, 0, n)),
-        _ => Ok(()),
+        Ok(n) => put_line(w, part(&room, 0, n)),
+        Err(_) => Ok(()),
     }
 }

@@ -7,5 +7,5 @@ use Rattle.journaling.proofs.leave.Goals as goal
 pub returns : goal.returns
 returns c =
     let s = c.args in
-    c.entered.ensures.by_index left s.room.now c.put_leaving-n.new.room (left_step s.member c.leave-next.result c.leave-next.ensures)
-    c.put_leaving-n.ensures
+    c.entered.ensures.by_index left s.room.now c.put_leaving-line.new.room (left_step s.member c.leave-next.result c.leave-next.ensures)
+    c.put_leaving-line.ensures

@@ -1,5 +1,5 @@
 -- A line put to a room's start, if it finds room.
-use Rattle.std.specs.Prelude.{◌≡◌, ℕ, ◌<◌, ◌≤◌, false, List, [], ◌∷◌, ◌++◌, length}
+use Rattle.std.specs.Prelude.{◌≡◌, ℕ, ◌<◌, ◌≤◌, false, List, [], ◌∷◌, ◌++◌, length, Option, Some, None}
 use Rattle.ikev2_numbers.specs.Codes.{header_octets, most_octets}
 use Rattle.keywrap.specs.Answers.{written}
 use Rattle.text_rules.specs.Hex.{digits_of}
@@ -15,11 +15,10 @@ use Rattle.journal_rules.specs.Replay.{TakesEffect}
 abbrev pub text_of : List ℕ → List ℕ
 text_of octets = digits_of octets ++ (newline ∷ [])
 
--- nothing is written where the line finds no room, and the answer is 0; else the line stands at the room's start, and the answer is its
--- length
-pub data PutsLine (line room after : List ℕ) (n : ℕ) : Type 0 where
-  left_out : n ≡ 0 → length room < length line → after ≡ room → PutsLine line room after n
-  put-there : n ≡ length line → length line ≤ length room → after ≡ written line room → PutsLine line room after n
+-- nothing is written where the line finds no room; else the line stands at the room's start, and the answer is its length
+pub data PutsLine (line room after : List ℕ) : Option ℕ → Type 0 where
+  left_out : length room < length line → after ≡ room → PutsLine line room after None
+  put-there : (n : ℕ) → n ≡ length line → length line ≤ length room → after ≡ written line room → PutsLine line room after (Some n)
 
 -- a frame that can be written: it has a header and at most as many octets as a frame may have, and where its lent key is read, the key has
 -- at most as many as a wrapping key

@@ -1,20 +1,13 @@
-use borrow.Author.Rules.{rules}
-use mathlib.Core.Path.{refl, sym, ◌∙◌}
+use mathlib.Core.Path.{sym, ◌∙◌}
 use Rattle.text_rules.proofs.HexLaws.{digits_more, digits-end}
 use Rattle.text_lines.proofs.are_digits.Goals as goal
 
 -- `text_lines::are_digits` meets its contract. The invariant: what is left decides, where all were digits so far.
 
-pub loop-i-init : goal.loop-i-init
-loop-i-init c = (search rules, refl)
-
-pub loop-i-preserved : goal.loop-i-preserved
-loop-i-preserved c =
-    let s = c.args.text.now in
-    let l = c.loop-i in
-    (search rules, digits_more s l.i l.so_far _ c.loop-i-test.true c.is_digit-one.ensures l.invariant.1)
+pub loop-c-preserved : goal.loop-c-preserved
+loop-c-preserved c =
+    let l = c.loop-c in
+    digits_more c.args.text.now l.c-index l.so_far _ c.loop-c-test.true c.is_digit-one.ensures l.invariant
 
 pub returns : goal.returns
-returns c =
-    let s = c.args.text.now in
-    sym (c.loop-i.invariant.1 ∙ digits-end s c.loop-i.i c.loop-i.so_far c.loop-i-test.false)
+returns c = sym (c.loop-c.invariant ∙ digits-end c.args.text.now c.loop-c.c-index c.loop-c.so_far c.loop-c-test.false)

@@ -5,7 +5,7 @@ use Rattle.text_lines.proofs.is_hex.Goals as goal
 -- `text_lines::is_hex` meets its contract.
 
 pub returns-then-are_digits : goal.returns-then-are_digits
-returns-then-are_digits c = sym (hex-even c.args.text.now (sym c.are_digits.ensures ∙ c.if-are_digits.true))
+returns-then-are_digits c = sym (hex-even c.args.text.now (sym c.if-are_digits.ensures))
 
-pub returns : goal.returns
-returns c = sym (hex-other c.args.text.now (sym c.are_digits.ensures ∙ c.if-are_digits.false))
+pub returns-else-are_digits : goal.returns-else-are_digits
+returns-else-are_digits c = c.if-are_digits.false ∙ sym (hex-other c.args.text.now (sym c.if-are_digits.ensures))

@@ -1,20 +1,14 @@
-use mathlib.Core.Path.{sym, ◌∙◌}
-use Rattle.text_rules.proofs.InputLaws.{taken-short, taken-long, taken-within}
+use native.Mathlib.Omega.{arith}
+use Rattle.std.proofs.lemmas.Grind.{common_steps}
+use Rattle.text_rules.specs.Input.{is_taken}
 use Rattle.text_lines.proofs.is_taken.Goals as goal
 
 -- `text_lines::is_taken` meets its contract.
 
-pub returns-then-text-least : goal.returns-then-text-least
-returns-then-text-least c =
-    let a = c.args in
-    sym (taken-short a.least a.most a.text.now c.if-text-least.true)
+pub returns-then-text-most : goal.returns-then-text-most
+unfolding is_taken
+returns-then-text-most c = grind (arith, common_steps)
 
-pub returns-then-most-text : goal.returns-then-most-text
-returns-then-most-text c =
-    let a = c.args in
-    sym (taken-long a.least a.most a.text.now c.if-most-text.true)
-
-pub returns : goal.returns
-returns c =
-    let a = c.args in
-    c.is_hex.ensures ∙ sym (taken-within a.least a.most a.text.now c.if-text-least.false c.if-most-text.false)
+pub returns-else-text-most : goal.returns-else-text-most
+unfolding is_taken
+returns-else-text-most c = grind (arith, common_steps)

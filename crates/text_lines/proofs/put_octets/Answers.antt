@@ -7,7 +7,7 @@ use Rattle.lists.proofs.Cases.{lt-cases}
 use Rattle.text_rules.specs.Hex.{octets_of_hex}
 use Rattle.text_rules.proofs.HexLaws.{read_more, read-end}
 use Rattle.text_lines.specs.inner.Room.{Put}
-use Rattle.text_lines.proofs.RoomLaws.{puts-start, puts-more, puts-done, puts-full, length-puts, put-octet-as, put-stored}
+use Rattle.text_lines.proofs.RoomLaws.{puts-more, puts-done, puts-full, length-puts, put-octet-as, put-stored}
 use Rattle.text_lines.proofs.put_octets.Invariants.{Putting}
 use Rattle.text_lines.proofs.put_octets.Goals as goal
 
@@ -20,54 +20,20 @@ all-put text {room₀} {at} k p e =
     lt-cases (length room₀ - at) (length text / 2) (λ h. puts-full p (omega arith))
     (λ h. puts-done p (read-end text (2 * k) (omega arith)))
 
-pub loop-k-init : goal.loop-k-init
-loop-k-init c =
-    let a = c.args in
-    let e : a.at + 0 ≡ a.at = omega arith in
-    (omega arith, rw e (puts-start a.room.now a.at (octets_of_hex a.text.now)))
-
-pub overflow_mul-k : goal.overflow_mul-k
-overflow_mul-k c = omega (arith, c.fitting-n.ensures)
-
-pub octet_at-requires : goal.octet_at-requires
-octet_at-requires c = omega (arith, c.fitting-n.ensures)
-
-pub overflow_add-room : goal.overflow_add-room
-overflow_add-room c = omega (arith, c.fitting-n.ensures)
-
-pub bounds-room-at : goal.bounds-room-at
-bounds-room-at c =
-    let e = length-puts c.loop-k.invariant.1 in
-    omega (arith, e, c.fitting-n.ensures)
-
-pub overflow_add-k : goal.overflow_add-k
-overflow_add-k c = omega arith
-
-pub loop-k-smaller : goal.loop-k-smaller
-loop-k-smaller c = omega arith
-
 pub loop-k-preserved : goal.loop-k-preserved
 loop-k-preserved c =
     let a = c.args in
     let k = c.loop-k.k in
-    let s = a.text.now in
     let n = c.fitting-n.ensures in
-    let e = length-puts c.loop-k.invariant.1 in
+    let e = length-puts c.loop-k.invariant in
     let two : 2 * k + 2 ≡ 2 * (k + 1) = omega arith in
     let place : a.at + k + 1 ≡ a.at + (k + 1) = omega arith in
     let o = put-octet-as c.octet_at.ensures (put-stored c.loop-k.room (a.at + k) c.octet_at.result (omega (arith, e, n))) in
-    let more = puts-more _ c.loop-k.invariant.1 (read_more s (2 * k) (omega (arith, n))) o in
-    (omega arith, rw (sym place) (rw (sym two) more))
-
-pub overflow_add-result : goal.overflow_add-result
-overflow_add-result c = omega (arith, c.fitting-n.ensures)
-
-pub shape_of-room : goal.shape_of-room
-shape_of-room c = length-puts c.loop-k.invariant.1
+    let more = puts-more _ c.loop-k.invariant (read_more a.text.now (2 * k) (omega (arith, n))) o in
+    rw (sym place) (rw (sym two) more)
 
 pub returns : goal.returns
 returns c =
     let k = c.loop-k.k in
-    let s = c.args.text.now in
-    let e : k ≡ c.fitting-n.result = omega (arith, c.loop-k.invariant.0) in
-    rw (sym e) (all-put s k c.loop-k.invariant.1 (e ∙ c.fitting-n.ensures))
+    let e : k ≡ c.fitting-n.result = omega arith in
+    rw (sym e) (all-put c.args.text.now k c.loop-k.invariant (e ∙ c.fitting-n.ensures))

@@ -1,4 +1,4 @@
-use Prim.Native.Nat.{ℕ, ◌≤◌, ◌+◌, ◌-◌, ◌*◌}
+use Prim.Native.Nat.{ℕ, ◌+◌, ◌*◌}
 use mathlib.Core.List.{List}
 use lib.ListN.{drop}
 use Rattle.text_rules.specs.Hex.{octets_of_hex}
@@ -10,7 +10,4 @@ abbrev pub Putting : List ℕ → ℕ → List ℕ → ℕ → List ℕ → Type
 Putting room₀ at text k room = Puts room₀ at (octets_of_hex text) room (at + k) (octets_of_hex (drop (2 * k) text))
 
 abbrev pub invariant-loop-k : goal.invariant-loop-k
-invariant-loop-k l = (l.k ≤ l.n) × Putting l.initial.room l.at l.text l.k l.room
-
-abbrev pub decreases-loop-k : goal.decreases-loop-k
-decreases-loop-k l = l.n - l.k
+invariant-loop-k l = Putting l.initial.room l.at l.text l.k l.room

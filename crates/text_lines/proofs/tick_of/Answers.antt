@@ -7,4 +7,4 @@ use Rattle.text_lines.proofs.tick_of.Goals as goal
 pub returns : goal.returns
 returns c =
     let e = tick-octets c.args.text.now c.requires in
-    omega (arith, e, c.octet_at-d.ensures, c.octet_at-c.ensures, c.octet_at-b.ensures, c.octet_at-a.ensures)
+    omega (arith, e, c.octet_at-d.ensures, c.octet_at-c.ensures, c.octet_at-b.ensures, c.octet_at-a.ensures, c.from_be_bytes.ensures)

@@ -1,4 +1,4 @@
-use Rattle.std.proofs.Common.{◌≡◌, ℕ, ◌+◌, ◌≤◌, false, length, take, sym, refl, subst, arith}
+use Rattle.std.proofs.Common.{◌≡◌, ℕ, ◌+◌, ◌≤◌, length, take, sym, refl, subst, arith}
 use Rattle.text_lines.specs.inner.Reading.{LineKept}
 use Rattle.journal_rules.specs.inner.Longest.{longest_digits}
 use Rattle.journaling.specs.Reader.{had-stopped, reads_on}
@@ -24,9 +24,9 @@ returns c =
     let w = c.within in
     let s = c.args.r in
     let p = s.place in
-    let start : ReaderPlace = record { member = p.member; taken = p.taken; stopped = false; len = w.result } in
+    let start : ReaderPlace = record { member = p.member; taken = p.taken; stopped = p.stopped; len = w.result } in
     let long : length s.line ≡ longest_digits + 1 = omega arith in
     let kept = subst (λ (n : ℕ). LineKept s.line n (take p.len s.line)) (sym w.ensures) (kept-within s.line p.len long) in
     reads_on c.if-p.false
     (c.read_block-place.ensures p.member.state p.taken (take p.len s.line)
-    (far-start p.member.state p.taken (take p.len s.line) start s.line refl refl refl kept))
+    (far-start p.member.state p.taken (take p.len s.line) start s.line c.if-p.false refl refl kept))

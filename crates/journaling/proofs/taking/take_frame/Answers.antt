@@ -22,18 +22,18 @@ pub slice_bounds-receive-end-2 : goal.slice_bounds-receive-end-2
 slice_bounds-receive-end-2 c = let h = hands-there c.args.n c.args.o.now
     c.requires in omega arith
 
-pub returns-then-number-eq0 : goal.returns-then-number-eq0
-returns-then-number-eq0 c =
-    let o = c.args.o.now in
-    let k : c.args.n - 0 ≡ c.args.n = omega arith in
-    frame-taken c.args.n o c.args.member c.requires c.be32_at-tick.ensures (ap (λ (i : ℕ). take i o) k) (part-rest
-    (c.args.n + 4) o) c.receive-x.ensures
-    (omega (arith, c.number-number.ensures))
-
 pub returns : goal.returns
 returns c =
     let o = c.args.o.now in
     let k : c.args.n - 0 ≡ c.args.n = omega arith in
+    frame-taken c.args.n o c.args.member c.requires c.be32_at-tick.ensures (ap (λ (i : ℕ). take i o) k) (part-rest
+    (c.args.n + 4) o) c.receive-x.ensures
+    (omega (arith, c.number.ensures))
+
+pub returns-then-number-ne0 : goal.returns-then-number-ne0
+returns-then-number-ne0 c =
+    let o = c.args.o.now in
+    let k : c.args.n - 0 ≡ c.args.n = omega arith in
     frame_refused c.args.n o c.args.member c.requires c.be32_at-tick.ensures (ap (λ (i : ℕ). take i o) k) (part-rest
     (c.args.n + 4) o) c.receive-x.ensures
-    (λ z. omega (arith, z, c.number-number.ensures))
+    (λ z. omega (arith, z, c.number.ensures))

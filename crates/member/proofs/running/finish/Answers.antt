@@ -10,19 +10,19 @@ slice_bounds-answer_line-end c =
     let r = c.args.r in
     sym (length-take-le r.len c.args.line.now c.requires.buffers_ready.begun)
 
-pub returns-then-len-gt0 : goal.returns-then-len-gt0
-returns-then-len-gt0 c =
+pub returns : goal.returns
+returns c =
     let r = c.args.r in
     let line = c.args.line.now in
     let out = c.answer_line.new.out in
     let e = c.answer_line.result in
     let p = c.answer_line.ensures in record {
       at_in_bounds = answered-place r (take r.len line) c.args.out.now out e r.keyed p c.requires.buffers_ready.place;
-      by_index = finished-line r c.requires.buffers_ready.line-long c.if-len-gt0.true c.requires.reply_fits c.requires.buffers_ready.place out e p;
+      by_index = finished-line r c.requires.buffers_ready.line-long (omega (arith, c.if-len-eq0.false)) c.requires.reply_fits c.requires.buffers_ready.place out e p;
     }
 
-pub returns : goal.returns
-returns c =
+pub returns-then-len-eq0 : goal.returns-then-len-eq0
+returns-then-len-eq0 c =
     record {
       at_in_bounds = c.requires.buffers_ready.place;
       by_index = finished-none c.args.r c.requires.buffers_ready.line-long (omega arith);
