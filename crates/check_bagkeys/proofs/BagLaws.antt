@@ -237,13 +237,6 @@ module _ (limits : Limits) (fresh : Bool) (k : List ℕ) where
             omega (arith, l, h.fresh-few, w.few_fresh, b.some, b.order),
           )
 
-      pub bags-room : (f.members + o.members ≤ length k) × (f.wraps + o.wraps ≤ length k) × (f.fresh + o.fresh ≤ length k)
-      bags-room = (
-        omega (arith, held-few.0, b.inside),
-        omega (arith, held-few.1, b.inside),
-        omega (arith, held-few.2, b.inside),
-      )
-
       pub bags-next : (g : BagFacts) → g ≡ merge_bag_facts f o → BagWalk g (at + r.end)
       bags-next g q =
           let after = bag_facts_of limits (bags_in fresh (drop (at + r.end) k)) in

@@ -1,6 +1,6 @@
 -- The walk over the policies of a GSA body.
 use Prim.Native.Nat.{ℕ, ◌+◌, ◌-◌, ◌≤◌}
-use mathlib.Core.Path.{◌≡◌, refl, ap, sym, ◌∙◌, subst}
+use mathlib.Core.Path.{◌≡◌, ap, sym, ◌∙◌, subst}
 use mathlib.Core.List.{List, [], ◌∷◌, flat_map}
 use mathlib.Core.Bool.{Bool, true, false, cond, or-false}
 use native.Mathlib.Omega.{arith}
@@ -24,36 +24,13 @@ use Rattle.rules_refusals.specs.Fitness.{is_esp, is_rekey}
 use Rattle.rules_refusals.proofs.OneOf.{or-joined}
 use Rattle.check_suites.specs.inner.Adding.{once}
 use Rattle.check_composition.specs.inner.Facts.{given_by, of_sa, of_policy, sa_with, PolicyFactsAtMost, PolicyBodyHolds, FactsOfPolicy}
-use Rattle.check_composition.specs.inner.Facts.{no_policies, merge_policy_facts, policy_facts_of}
+use Rattle.check_composition.specs.inner.Facts.{merge_policy_facts, policy_facts_of}
 use Rattle.check_composition.specs.inner.Numbers.{greatest}
 use Rattle.check_composition.specs.declared.PolicyFacts.{PolicyFacts}
 use Rattle.check_composition.proofs.NumberLaws.{greater-none, none-greater, greater-joined, greatest-join}
 use Rattle.check_composition.proofs.WalkLaws.{PolicyAt, no-policy}
 
 -- ---- facts add up
-from-none : (f : PolicyFacts) → merge_policy_facts no_policies f ≡ f
-from-none f =
-    let s : 0 + f.sas ≡ f.sas = omega arith in
-    let e : 0 + f.esps ≡ f.esps = omega arith in
-    let r : 0 + f.rekeys ≡ f.rekeys = omega arith in
-    let w : 0 + f.wides ≡ f.wides = omega arith in
-    λ i. record {
-      sas = s i;
-      esps = e i;
-      rekeys = r i;
-      wides = w i;
-      ah = f.ah;
-      two_lengths = f.two_lengths;
-      two_message_ids = f.two_message_ids;
-      two_delays = f.two_delays;
-      two_lifetimes = f.two_lifetimes;
-      elsewhere = f.elsewhere;
-      long = f.long;
-      unfit = f.unfit;
-      delay = none-greater f.delay i;
-      initial = none-greater f.initial i;
-    }
-
 none_left : (a : Bool) (f : PolicyFacts) → merge_policy_facts f (policy_facts_of a []) ≡ f
 unfolding any count flat_map greatest
 none_left a f =
@@ -210,28 +187,12 @@ module _ (a : Bool) (g : List ℕ) where
     pub rest : is_whole (policies 0 (drop at g)) ≡ true
     pub so_far : merge_policy_facts f (policy_facts_of a (policies_in (drop at g))) ≡ policy_facts_of a (policies_in g)
 
-  pub policies-start : is_whole (policies 0 g) ≡ true → (f : PolicyFacts) → f ≡ no_policies → PolicyWalk f 0
-  policies-start e f q = record {
-    few = record {
-      sas = omega (arith, ap (λ (z : PolicyFacts). z.sas) q);
-      esps = omega (arith, ap (λ (z : PolicyFacts). z.esps) q);
-      rekeys = omega (arith, ap (λ (z : PolicyFacts). z.rekeys) q);
-      wides = omega (arith, ap (λ (z : PolicyFacts). z.wides) q);
-    };
-    inside = omega arith;
-    rest = e;
-    so_far = ap (λ (x : PolicyFacts). merge_policy_facts x (policy_facts_of a (policies_in g))) q ∙ from-none (policy_facts_of a (policies_in g));
-  }
-
   module _ (f : PolicyFacts) (at : ℕ) (w : PolicyWalk f at) where
     pub policies-end : length g ≤ at → f ≡ policy_facts_of a (policies_in g)
     policies-end h =
         sym (none_left a f) ∙ ap (λ (l : List Policy). merge_policy_facts f (policy_facts_of a l)) (sym (no-policy g at h)) ∙ w.so_far
 
     module _ (r : Parts) (q : PolicyAt g at r) (o : PolicyFacts) (h : FactsOfPolicy a r.first (body g at r q) o) where
-      pub policies-room : PolicyFactsAtMost (length g) (merge_policy_facts f o)
-      policies-room = at_most at 1 (length g) f o (merge_policy_facts f o) refl w.few h.few (omega (arith, q.some, q.inside))
-
       pub policies-next : (n : PolicyFacts) → n ≡ merge_policy_facts f o → PolicyWalk n (at + r.end)
       policies-next n e =
           let i = item_of g at r q a o h in

@@ -1,6 +1,6 @@
 -- One policy, and the others, where a loop over them stands.
-use Prim.Native.Nat.{ℕ, ◌+◌, ◌<◌, ◌≤◌}
-use mathlib.Core.Path.{◌≡◌, ap, ◌∙◌, subst}
+use Prim.Native.Nat.{ℕ, ◌+◌, ◌≤◌}
+use mathlib.Core.Path.{◌≡◌, ap, subst}
 use mathlib.Core.List.{List, []}
 use mathlib.Core.Bool.{true}
 use native.Mathlib.Omega.{arith}
@@ -16,20 +16,10 @@ use Rattle.wire_readers.specs.declared.policy.Parts.{Parts}
 
 -- WHAT A LOOP ASKS before it reads the next one, and at the end
 module _ {A : Type 0} (p : Reader A) (takes : (b : ℕ) (s : List ℕ) → Takes s (p b s)) (s : List ℕ) (at : ℕ) where
-  some_left : at < length s → 0 < length (tail s at)
-  some_left h = omega (arith, ap length (to_end s at), length-drop at s)
-
-  whole-left : is_whole (many p 0 (drop at s)) ≡ true → is_whole (many p 0 (tail s at)) ≡ true
-  whole-left e = ap (λ (l : List ℕ). is_whole (many p 0 l)) (to_end s at) ∙ e
-
   none-there : length s ≤ at → items_of (many p 0 (drop at s)) ≡ []
   none-there h = ap items_of (many-none p takes 0 (drop at s) (omega (arith, length-drop at s)))
 
 module _ (s : List ℕ) (at : ℕ) where
-  pub reads-policy : at < length s → is_whole (policies 0 (drop at s)) ≡ true
-      → (0 < length (tail s at)) × (is_whole (policies 0 (tail s at)) ≡ true)
-  reads-policy h e = (some_left policy policy-takes s at h, whole-left policy policy-takes s at e)
-
   pub no-policy : length s ≤ at → policies_in (drop at s) ≡ []
   no-policy h = none-there policy policy-takes s at h
 

@@ -1,5 +1,5 @@
 -- The pass over the heads of a body that counts some of the names.
-use Prim.Native.Nat.{ℕ, ◌+◌, ◌-◌, ◌<◌, ◌≤◌}
+use Prim.Native.Nat.{ℕ, ◌+◌, ◌<◌, ◌≤◌}
 use mathlib.Core.Path.{◌≡◌, ap, sym, ◌∙◌}
 use mathlib.Core.List.{List, ◌++◌}
 use mathlib.Core.Bool.{Bool, true, false, cond}
@@ -10,7 +10,7 @@ use Rattle.lists.specs.Lists.{any, count}
 use Rattle.wire_readers.specs.declared.policy.Parts.{Parts}
 use Rattle.check_pairing.specs.inner.Names.{Name, name_of, name_at, Names}
 use Rattle.check_pairing.proofs.OneName.{name-counted}
-use Rattle.check_pairing.proofs.Walking.{Along, HeadAt, along-start, along-end, along-next}
+use Rattle.check_pairing.proofs.Walking.{Along, HeadAt, along-end, along-next}
 
 module _ (q : Name → Bool) (s : List ℕ) where
   abbrev pub SoFar : ℕ → List Name → List Name → Type 0
@@ -21,21 +21,12 @@ module _ (q : Name → Bool) (s : List ℕ) where
     pub few : n ≤ at
     pub along : Along s at (SoFar n)
 
-  pub counting-start : Counting 0 0
-  counting-start = record { few = omega arith; along = along-start s (SoFar 0) (λ l. omega arith) }
-
   module _ (n at : ℕ) (c : Counting n at) where
     pub counting-end : length s ≤ at → (l : List Name) → Names s l → n ≡ count q l
     unfolding count
     counting-end h l e = let z : n + 0 ≡ count q l = along-end s at (SoFar n) c.along h l e in omega arith
 
     module _ (h : at < length s) (r : Parts) (a : HeadAt s at r) where
-      pub counting-room : n + 1 ≤ length s
-      counting-room = omega (arith, c.few)
-
-      pub counting-less : length s - (at + r.end) < length s - at
-      counting-less = omega (arith, a.some, a.order, a.inside)
-
       module _ (b : Bool) (e : b ≡ any q (name_of r.first (part s (at + 4) (at + r.body)))) where
         one_more : (x : Bool) (m : List Name) → b ≡ x → count q (name_at (drop at s) ++ m) ≡ cond x (count q m + 1) (count q m)
         one_more x m f =

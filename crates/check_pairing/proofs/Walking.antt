@@ -39,9 +39,6 @@ pub record Along (s : List ℕ) (at : ℕ) (E : List Name → List Name → Type
   pub inside : at ≤ length s
   pub left : (l : List Name) → Names s l → Left s at E l
 
-pub along-start : (s : List ℕ) (E : List Name → List Name → Type 0) → ((l : List Name) → E l l) → Along s 0 E
-along-start s E e = record { inside = omega arith; left = λ l n. record { names = l; are = n; so = e l } }
-
 -- a head at a place
 pub record HeadAt (s : List ℕ) (at : ℕ) (r : Parts) : Type 0 where
   pub some : 4 ≤ r.body

@@ -23,7 +23,8 @@ pub suite-u-requires : goal.suite-u-requires
 suite-u-requires c =
     let p = in_policy c.args.protocol in
     let f = c.sa_parts-p.ensures p c.requires.0 c.requires.1 in
-    (c.requires.0.suite.transforms, drop c.sa_parts-p.result.attributes c.args.o.now, transforms-are p c.args.o.now c.requires.0 c.sa_parts-p.result f)
+    let r = c.sa_parts-p.result in
+    (c.requires.0.suite.transforms, drop r.attributes c.args.o.now, transforms-are p c.args.o.now c.requires.0 r f)
 
 pub slice_bounds-numbers_of-count : goal.slice_bounds-numbers_of-count
 slice_bounds-numbers_of-count c = (c.sa_parts-p.ensures (in_policy c.args.protocol) c.requires.0 c.requires.1).inside
@@ -34,7 +35,8 @@ slice_bounds-numbers_of-start c = (c.sa_parts-p.ensures (in_policy c.args.protoc
 pub numbers_of-n-requires : goal.numbers_of-n-requires
 numbers_of-n-requires c =
     let f = c.sa_parts-p.ensures (in_policy c.args.protocol) c.requires.0 c.requires.1 in
-    (refl, attributes-whole c.args.protocol c.args.o.now c.requires.0 c.sa_parts-p.result f c.in_policy-place.result c.in_policy-place.ensures)
+    let p = c.in_policy-place in
+    (refl, attributes-whole c.args.protocol c.args.o.now c.requires.0 c.sa_parts-p.result f p.result p.ensures)
 
 pub slice_bounds-numbers_of-count-2 : goal.slice_bounds-numbers_of-count-2
 slice_bounds-numbers_of-count-2 c = (c.sa_parts-p.ensures (in_policy c.args.protocol) c.requires.0 c.requires.1).inside
@@ -45,7 +47,8 @@ slice_bounds-numbers_of-start-2 c = (c.sa_parts-p.ensures (in_policy c.args.prot
 pub numbers_of-m-requires : goal.numbers_of-m-requires
 numbers_of-m-requires c =
     let f = c.sa_parts-p.ensures (in_policy c.args.protocol) c.requires.0 c.requires.1 in
-    (refl, attributes-whole c.args.protocol c.args.o.now c.requires.0 c.sa_parts-p.result f c.in_policy-place.result c.in_policy-place.ensures)
+    let p = c.in_policy-place in
+    (refl, attributes-whole c.args.protocol c.args.o.now c.requires.0 c.sa_parts-p.result f p.result p.ensures)
 
 pub slice_bounds-is_group_address-count : goal.slice_bounds-is_group_address-count
 slice_bounds-is_group_address-count c = (c.sa_parts-p.ensures (in_policy c.args.protocol) c.requires.0 c.requires.1).order

@@ -14,7 +14,8 @@ is_barred-requires c =
 pub returns-then-not-is_formed : goal.returns-then-not-is_formed
 returns-then-not-is_formed c =
     let a = c.args in
-    ap not c.if-not-is_formed.true ∙ two-broken limits a.state a.tick a.exchange a.spi.now (sym c.is_formed.ensures ∙ c.if-not-is_formed.true)
+    ap not c.if-not-is_formed.true
+    ∙ two-broken limits a.state a.tick a.exchange a.spi.now (sym c.is_formed.ensures ∙ c.if-not-is_formed.true)
 
 pub returns-else-not-is_formed : goal.returns-else-not-is_formed
 returns-else-not-is_formed c =

@@ -31,35 +31,51 @@ own profile row s w is r e =
 
 pub slice_bounds-policy_facts-count : goal.slice_bounds-policy_facts-count
 slice_bounds-policy_facts-count c =
-    let f = own c.args.profile c.args.row c.args.s.now c.requires.s_value c.requires.f_value c.payload_facts-payloads.result c.payload_facts-payloads.ensures in f.gsa_order
+    let a = c.args in
+    let p = c.payload_facts-payloads in
+    (own a.profile a.row a.s.now c.requires.s_value c.requires.f_value p.result p.ensures).gsa_order
 
 pub slice_bounds-policy_facts-start : goal.slice_bounds-policy_facts-start
 slice_bounds-policy_facts-start c =
-    let f = own c.args.profile c.args.row c.args.s.now c.requires.s_value c.requires.f_value c.payload_facts-payloads.result c.payload_facts-payloads.ensures in f.gsa_order
+    let a = c.args in
+    let p = c.payload_facts-payloads in
+    (own a.profile a.row a.s.now c.requires.s_value c.requires.f_value p.result p.ensures).gsa_order
 
 pub slice_bounds-policy_facts-end : goal.slice_bounds-policy_facts-end
 slice_bounds-policy_facts-end c =
-    let f = own c.args.profile c.args.row c.args.s.now c.requires.s_value c.requires.f_value c.payload_facts-payloads.result c.payload_facts-payloads.ensures in f.gsa_inside
+    let a = c.args in
+    let p = c.payload_facts-payloads in
+    (own a.profile a.row a.s.now c.requires.s_value c.requires.f_value p.result p.ensures).gsa_inside
 
 pub policy_facts-policies-requires : goal.policy_facts-policies-requires
 policy_facts-policies-requires c =
-    let f = own c.args.profile c.args.row c.args.s.now c.requires.s_value c.requires.f_value c.payload_facts-payloads.result c.payload_facts-payloads.ensures in f.gsa_whole
+    let a = c.args in
+    let p = c.payload_facts-payloads in
+    (own a.profile a.row a.s.now c.requires.s_value c.requires.f_value p.result p.ensures).gsa_whole
 
 pub slice_bounds-kd_facts-count : goal.slice_bounds-kd_facts-count
 slice_bounds-kd_facts-count c =
-    let f = own c.args.profile c.args.row c.args.s.now c.requires.s_value c.requires.f_value c.payload_facts-payloads.result c.payload_facts-payloads.ensures in f.kd_order
+    let a = c.args in
+    let p = c.payload_facts-payloads in
+    (own a.profile a.row a.s.now c.requires.s_value c.requires.f_value p.result p.ensures).kd_order
 
 pub slice_bounds-kd_facts-start : goal.slice_bounds-kd_facts-start
 slice_bounds-kd_facts-start c =
-    let f = own c.args.profile c.args.row c.args.s.now c.requires.s_value c.requires.f_value c.payload_facts-payloads.result c.payload_facts-payloads.ensures in f.kd_order
+    let a = c.args in
+    let p = c.payload_facts-payloads in
+    (own a.profile a.row a.s.now c.requires.s_value c.requires.f_value p.result p.ensures).kd_order
 
 pub slice_bounds-kd_facts-end : goal.slice_bounds-kd_facts-end
 slice_bounds-kd_facts-end c =
-    let f = own c.args.profile c.args.row c.args.s.now c.requires.s_value c.requires.f_value c.payload_facts-payloads.result c.payload_facts-payloads.ensures in f.kd_inside
+    let a = c.args in
+    let p = c.payload_facts-payloads in
+    (own a.profile a.row a.s.now c.requires.s_value c.requires.f_value p.result p.ensures).kd_inside
 
 pub kd_facts-requires : goal.kd_facts-requires
 kd_facts-requires c =
-    let f = own c.args.profile c.args.row c.args.s.now c.requires.s_value c.requires.f_value c.payload_facts-payloads.result c.payload_facts-payloads.ensures in f.kd_whole
+    let a = c.args in
+    let p = c.payload_facts-payloads in
+    (own a.profile a.row a.s.now c.requires.s_value c.requires.f_value p.result p.ensures).kd_whole
 
 pub returns : goal.returns
 returns c =
