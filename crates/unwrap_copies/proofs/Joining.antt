@@ -1,13 +1,10 @@
 -- What is told of some tries and of others is told of them all.
 use Prim.Native.Nat.{ℕ}
 use mathlib.Core.Path.{◌≡◌, sym, ap, ◌∙◌, subst}
-use mathlib.Core.Bool.{true, false, false≢true}
 use mathlib.Core.Logic.{◌⊎◌, inl, inr, ⊎_elim}
 use mathlib.Core.List.Memᴰ
 use mathlib.Core.List.{List, ◌++◌}
 use lib.ListN.{take}
-use Rattle.octets.specs.Compare.{same}
-use Rattle.octets.proofs.Order.{same-eq, eq-same}
 use Rattle.rules_chains.proofs.Members.{in-member, member-in}
 use Rattle.state_keys.specs.Kinds.{padded}
 use Rattle.unwrap_copies.specs.declared.answer.CopyFound.{CopyFound}
@@ -87,9 +84,9 @@ module _ (l m : List Try) where
       two : TriesKey m need b.octets b.count
       two = told m need b Key f q
 
-      pub both-agree : same a.octets b.octets ≡ true → CopyTells (l ++ m) need a
+      pub both-agree : a.octets ≡ b.octets → CopyTells (l ++ m) need a
       both-agree g =
-          let o : b.octets ≡ a.octets = sym (same-eq a.octets b.octets g) in
+          let o : b.octets ≡ a.octets = sym g in
           let c : b.count ≡ a.count = two.need-is ∙ sym one.need-is in
           let v : take b.count b.octets ≡ take a.count a.octets = λ i. take (c i) (o i) in
           tell (l ++ m) need a Key e
@@ -101,9 +98,9 @@ module _ (l m : List Try) where
             blanks = one.blanks;
           })
 
-      pub both-differ : same a.octets b.octets ≡ false → TriesConflict (l ++ m) need
+      pub both-differ : (a.octets ≡ b.octets → ⊥) → TriesConflict (l ++ m) need
       both-differ g =
           let x = take a.count a.octets in
           let y = take b.count b.octets in
           two-values x y (some_left x one.opens) (some_right y two.opens)
-          (λ h. false≢true (sym g ∙ eq-same a.octets b.octets (one.blanks ∙ ap (padded 68) h ∙ sym two.blanks)))
+          (λ h. g (one.blanks ∙ ap (padded 68) h ∙ sym two.blanks))

@@ -1,14 +1,12 @@
 -- The openers of a list of copies, noted one copy after the other.
-use native.Mathlib.Numerals.{add-one}
 use native.Mathlib.Omega.{arith}
-use Prim.Native.Nat.{ℕ, ◌+◌, ◌<◌, ◌≤◌}
+use Prim.Native.Nat.{ℕ, ◌≤◌}
 use mathlib.Core.Path.{◌≡◌, refl, ap, sym, ◌∙◌, subst}
 use mathlib.Core.Bool.{Bool, true, false, false≢true}
 use mathlib.Core.Logic.{⊎_elim}
 use mathlib.Core.List.Memᴰ
 use mathlib.Core.List.{List, [], ◌∷◌, ◌++◌, append-nil, append_assoc, Memᴰ}
-use lib.ListN.{length, take, set, length-append}
-use lib.Seq.{take-suc-set}
+use lib.ListN.{length, take, length-append}
 use Rattle.rfc5649.specs.Opens.{Opens}
 use Rattle.state_keys.specs.Limits.{limits}
 use Rattle.state_keys.specs.Kinds.{value_of}
@@ -38,41 +36,6 @@ is_key Conflict = false
 no_key : (f g : CopyFound) → f ≡ g → is_key g ≡ false → f ≡ Key → ⊥
 unfolding is_key
 no_key f g e n k = false≢true (sym n ∙ ap is_key (sym e ∙ k))
-
--- ---- one copy is noted
-module _ (found : CopyFound) (kwk : ℕ) (o : Openers) where
-  pub noted-listed : found ≡ Key → o.count < limits.sa_keys → o.count < length o.ids →
-      Noted found kwk o (record { ids = set o.ids o.count kwk; count = o.count + 1 })
-  noted-listed e h n = record {
-    listed = λ k g. ap (λ (m : ℕ). take m (set o.ids o.count kwk)) (add-one o.count) ∙ take-suc-set o.ids o.count kwk n;
-    full = λ k g. absurd (omega (arith, h, g));
-    kept = λ k. absurd (k e);
-    few = omega arith;
-  }
-
-  pub noted-full : found ≡ Key → limits.sa_keys ≤ o.count → Noted found kwk o o
-  noted-full e h = record {
-    listed = λ k g. absurd (omega (arith, h, g));
-    full = λ k g. refl;
-    kept = λ k. refl;
-    few = omega arith;
-  }
-
-  noted_other : (g : CopyFound) → found ≡ g → is_key g ≡ false → Noted found kwk o o
-  noted_other g e n = record {
-    listed = λ k h. absurd (no_key found g e n k);
-    full = λ k h. absurd (no_key found g e n k);
-    kept = λ k. refl;
-    few = omega arith;
-  }
-
-  pub noted_nothing : found ≡ Nothing → Noted found kwk o o
-  unfolding is_key
-  noted_nothing e = noted_other Nothing e refl
-
-  pub noted-conflict : found ≡ Conflict → Noted found kwk o o
-  unfolding is_key
-  noted-conflict e = noted_other Conflict e refl
 
 -- one value is no conflict
 pub no-conflict : (l : List Try) (need : ℕ) (octets : List ℕ) (count : ℕ) → TriesKey l need octets count → TriesConflict l need → ⊥

@@ -4,13 +4,16 @@ use mathlib.Core.Path.{◌≡◌, refl, ap, sym, ◌∙◌, subst}
 use mathlib.Core.List.{List, [], ◌∷◌}
 use borrow.Author.Tests.{eq-eqb, ne_eqb}
 use lib.ListN.{length}
+use Rattle.std.specs.Prelude.{Some}
+use Rattle.aes.specs.inner.Schedule.{ExpandsInverse}
+use Rattle.aes.specs.declared.InverseSchedule.{InverseSchedule}
 use Rattle.wire_attributes.specs.Tree.{SaKey}
 use Rattle.state.specs.declared.held.HeldKey.{HeldKey}
 use Rattle.unwrap_lending.specs.inner.Named.{octets_named}
 use Rattle.unwrap_copies.specs.declared.answer.CopyFound.TheVariants.{Nothing}
 use Rattle.unwrap_copies.specs.declared.answer.CopyOpened.{CopyOpened}
 use Rattle.unwrap_copies.specs.inner.Named.{try_of, try_for}
-use Rattle.unwrap_copies.specs.inner.Ready.{TriedUnder, Untried}
+use Rattle.unwrap_copies.specs.inner.Ready.{TriedUnder, Untried, IsReady}
 use Rattle.unwrap_copies.specs.inner.Tries.{Try, CopyTells}
 use Rattle.unwrap_copies.proofs.Progress.{tells_none}
 
@@ -42,3 +45,13 @@ module _ (v : List ℕ) (new old : List HeldKey) where
     tried-under x w o e t =
         subst (λ (y : List Try). CopyTells y need r)
         (ap (λ (y : List ℕ). record { key = x; wrapped = y } ∷ []) (sym o) ∙ sym e) t
+
+-- ---- a key whose schedule is known
+pub ready-some : (v : List ℕ) (new old : List HeldKey) (id : ℕ) (x : List ℕ) (made : InverseSchedule) → ExpandsInverse x made.words →
+    TriedUnder v new old id x → IsReady v new old (record { id = id; schedule = Some made })
+ready-some v new old id x made e t =
+    record {
+      known = λ s q.
+          let z : made ≡ s = cc in (x, subst (λ (a : InverseSchedule). ExpandsInverse x a.words) z e, t);
+      none = λ q. cc;
+    }

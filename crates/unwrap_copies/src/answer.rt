@@ -10,12 +10,11 @@ ghost use Rattle.unwrap_copies.specs.declared.answer.CopyFound.TheVariants as fo
 
 use aes::{INVERSE_TABLE_WORDS, InverseSchedule};
 use keywrap::open_under;
-use octets::compare::same;
 use state_keys::limits::SA_KEYS;
 use state_keys::rooms::SA_OCTETS;
 
 // `Nothing`: no copy opens. `Key`: some open, all of these to one value of the right size. `Conflict`: refusal 8 holds of the copies.
-#[derive(Clone, Copy)]
+#[derive(Clone, Copy, PartialEq)]
 pub enum CopyFound {
     Nothing,
     Key,
@@ -58,30 +57,20 @@ pub fn no_openers() -> Openers
 pub(crate) fn note(o: Openers, found: CopyFound, kwk: u32) -> Openers
     ensures { Noted found kwk o result }
 {
-    match found {
-        CopyFound::Key => {
-            let n = o.count;
-            if n < SA_KEYS {
-                let mut ids = o.ids;
-                ids[n] = kwk;
-                return Openers { ids, count: n + 1 };
-            }
-            o
-        }
-        CopyFound::Nothing => o,
-        CopyFound::Conflict => o,
+    if found != CopyFound::Key || o.count >= SA_KEYS {
+        return o;
     }
+    let n = o.count;
+    let mut ids = o.ids;
+    ids[n] = kwk;
+    Openers { ids, count: n + 1 }
 }
 
 // Answers how many of the KWK IDs of `o` its list takes: the first so many of `ids` are the list.
 pub fn openers_listed(o: Openers) -> usize
     ensures { (result ≤ limits.sa_keys) × (take result o.ids ≡ openers_of o) }
 {
-    let n = o.count;
-    if n < SA_KEYS {
-        return n;
-    }
-    SA_KEYS
+    o.count.min(SA_KEYS)
 }
 
 // Answers that no copy opened, or that none was tried.
@@ -111,12 +100,7 @@ fn merge_values(a: CopyOpened, b: CopyOpened) -> CopyOpened
     requires { (a.found ≡ found.Key) × (b.found ≡ found.Key) }
     ensures { (need : ℕ) (l m : List Try) → CopyTells l need a → CopyTells m need b → CopyTells (l ++ m) need result }
 {
-    let x = a.octets;
-    let y = b.octets;
-    if same(&x, &y) {
-        return a;
-    }
-    conflict()
+    if a.octets == b.octets { a } else { conflict() }
 }
 
 // Merges the results of two groups of copies. A conflict in either, or two different values, is a conflict.

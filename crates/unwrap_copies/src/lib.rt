@@ -20,7 +20,7 @@ ghost use Rattle.state.specs.declared.held.HeldKey.{HeldKey};
 ghost use Rattle.unwrap_lending.specs.inner.Lending.{LendsTwo};
 ghost use Rattle.unwrap_copies.specs.inner.Known.{Agrees};
 ghost use Rattle.unwrap_copies.specs.inner.Named.{try_for};
-ghost use Rattle.unwrap_copies.specs.inner.Ready.{IsReady};
+ghost use Rattle.unwrap_copies.specs.inner.Ready.{IsExpanded, IsReady};
 ghost use Rattle.unwrap_copies.specs.inner.Tries.{CopyTells};
 ghost use Rattle.unwrap_copies.specs.inner.Answer.{announced_in};
 ghost use Rattle.unwrap_copies.specs.inner.Openers.{CopiesAnswer};
@@ -42,15 +42,14 @@ fn try_copy(
     key: ReadyKey,
 ) -> CopyOpened
     requires in_bounds { (8 ≤ length copy.now) × (need ≤ sa_room) }
-    requires tables_value { (tables.now ≡ decipher_tables) × ExpandedInverse key.schedule.words }
+    requires tables_value { (tables.now ≡ decipher_tables) × IsExpanded key.schedule }
     ensures { (v : List ℕ) (new old : List HeldKey) → IsReady v new old key → (sa_key_of copy.now).kwk_id ≡ key.id →
         CopyTells (try_for v new old (sa_key_of copy.now)) need result }
 {
-    if key.known {
-        let schedule = key.schedule;
-        return open_copy(tables, schedule, &copy[WRAPPED_AT..], need);
+    match key.schedule {
+        Some(schedule) => open_copy(tables, schedule, &copy[WRAPPED_AT..], need),
+        None => nothing(),
     }
-    nothing()
 }
 
 // Opens the copies of one announced SA. `a` are the attributes of its Group Key Bag, `place` is the sort of that bag, and `need` is the

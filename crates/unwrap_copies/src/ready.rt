@@ -4,28 +4,26 @@ ghost use Rattle.aes.specs.inner.Tables.{decipher_tables};
 ghost use Rattle.aes.specs.inner.Schedule.{ExpandsInverse, ExpandedInverse};
 ghost use Rattle.state.specs.declared.held.HeldKey.{HeldKey};
 ghost use Rattle.unwrap_lending.specs.inner.Lending.{LendsTwo};
-ghost use Rattle.unwrap_copies.specs.inner.Ready.{IsReady};
+ghost use Rattle.unwrap_copies.specs.inner.Ready.{IsExpanded, IsReady};
 
 use aes::{INVERSE_TABLE_WORDS, InverseSchedule, expand_inverse};
 use unwrap_lending::octets_named;
 
-// The key that the KWK ID `id` names, by its schedule. `known` is false if there is no such key; the schedule is then another key's.
+// The key that the KWK ID `id` names, by its schedule, or `None` if there is no such key.
 #[derive(Clone, Copy)]
 pub struct ReadyKey {
-    pub schedule: InverseSchedule,
     pub id: u32,
-    pub known: bool,
+    pub schedule: Option<InverseSchedule>,
 }
 
 // Answers key 0, whose schedule is `schedule`.
 pub(crate) fn key_zero(schedule: InverseSchedule) -> ReadyKey
     ensures by_index { (v : List ℕ) (new old : List HeldKey) → ExpandsInverse v schedule.words → IsReady v new old result }
-    ensures id_value { (result.id ≡ 0) × (result.schedule ≡ schedule) }
+    ensures id_value { (result.id ≡ 0) × (result.schedule ≡ Some schedule) }
 {
     ReadyKey {
-        schedule,
         id: 0,
-        known: true,
+        schedule: Some(schedule),
     }
 }
 
@@ -41,9 +39,9 @@ pub(crate) fn ready_for<'a>(
     ids: &[u32],
     block: &'a [u8],
 ) -> ReadyKey
-    requires tables_value { (tables.now ≡ decipher_tables) × ExpandedInverse schedule.words × ExpandedInverse last.schedule.words }
+    requires tables_value { (tables.now ≡ decipher_tables) × ExpandedInverse schedule.words × IsExpanded last.schedule }
     requires lends_two { (new : List HeldKey) × (old : List HeldKey) × LendsTwo new old carried.now fresh.now ids.now block.now }
-    ensures id_value { (result.id ≡ kwk) × ExpandedInverse result.schedule.words }
+    ensures id_value { (result.id ≡ kwk) × IsExpanded result.schedule }
     ensures by_index { (v : List ℕ) (new old : List HeldKey) → ExpandsInverse v schedule.words →
         LendsTwo new old carried.now fresh.now ids.now block.now →
         IsReady v new old last → IsReady v new old result }
@@ -55,17 +53,15 @@ pub(crate) fn ready_for<'a>(
         return key_zero(schedule);
     }
     let key = octets_named(kwk, fresh, carried, block, ids);
-    if key.len() == 0 {
+    if key.is_empty() {
         return ReadyKey {
-            schedule,
             id: kwk,
-            known: false,
+            schedule: None,
         };
     }
     let expanded = expand_inverse(tables, key);
     ReadyKey {
-        schedule: expanded,
         id: kwk,
-        known: true,
+        schedule: Some(expanded),
     }
 }

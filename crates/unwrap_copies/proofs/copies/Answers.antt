@@ -1,12 +1,11 @@
 use Rattle.std.proofs.Common.{ap, sym, ◌∙◌, subst, List, ℕ, drop, map, arith}
-use Rattle.aes.specs.inner.Schedule.{ExpandedInverse}
-use Rattle.aes.specs.declared.InverseSchedule.{InverseSchedule}
 use Rattle.wire_attributes.specs.Tree.{SaKey, sa_key_of}
 use Rattle.state_keys.specs.Kinds.{value_of}
 use Rattle.unwrap_copies.specs.inner.Answer.{copies_in}
 use Rattle.unwrap_copies.specs.declared.answer.CopyFound.TheVariants.{Key}
 use Rattle.unwrap_copies.specs.inner.Named.{tries_of_all}
 use Rattle.unwrap_copies.specs.inner.Openers.{Noted}
+use Rattle.unwrap_copies.specs.inner.Ready.{IsExpanded}
 use Rattle.unwrap_copies.proofs.Walking.{next-copies, next-tries, no-tries}
 use Rattle.unwrap_copies.proofs.Joining.{told}
 use Rattle.unwrap_copies.proofs.OpenersLaws.{no-conflict, Listed, listed-none, listed_next, openers-are}
@@ -20,7 +19,7 @@ loop-x-init c =
     let zero = c.key_zero-last in (
       omega arith,
       c.requires.a_value,
-      subst (λ (s : InverseSchedule). ExpandedInverse s.words) (sym zero.ensures.id_value.1) c.requires.tables_value.1,
+      subst IsExpanded (sym zero.ensures.id_value.1) c.requires.tables_value.1,
       λ v new old x lends. (
         starts a.need (tries_of_all v new old (copies_in a.place a.a.now)) c.nothing-known.result c.nothing-known.ensures,
         listed-none a.need v new old (copies_in a.place a.a.now) c.no_openers-openers.result c.no_openers-openers.ensures,

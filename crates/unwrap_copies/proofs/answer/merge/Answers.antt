@@ -17,5 +17,3 @@ pub returns-in-Conflict-g : goal.returns-in-Conflict-g
 returns-in-Conflict-g c need l m p q =
     let a = c.args in conflict-right l m need a.a a.b p q c.in-Conflict-g.is
 
-pub returns-in-Key-g : goal.returns-in-Key-g
-returns-in-Key-g c need l m p q = c.merge_values.ensures need l m p q

@@ -1,10 +1,10 @@
 use native.Mathlib.Omega.{arith}
 use Prim.Native.Nat.{◌≤◌}
-use mathlib.Core.Path.{◌≡◌, sym, subst}
+use mathlib.Core.Path.{◌≡◌, sym}
 use mathlib.Core.List.{[], ◌∷◌}
 use lib.ListN.{length, take, length-take}
 use lib.Seq.{length-take-le}
-use Rattle.keywrap.specs.inner.Blank.{blank, OpensBlank}
+use Rattle.keywrap.specs.inner.Blank.{blank}
 use Rattle.keywrap.proofs.Opening.{put-most}
 use Rattle.lists.proofs.Parts.{copied}
 use Rattle.unwrap_copies.specs.declared.answer.CopyFound.TheVariants.{Nothing, Conflict}
