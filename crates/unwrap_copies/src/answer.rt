@@ -133,20 +133,18 @@ pub(crate) fn open_copy(
     ensures { (v : List ℕ) → ExpandsInverse v schedule.words →
         CopyTells (record { key = v; wrapped = wrapped.now } ∷ []) need result }
 {
-    match open_under(tables, schedule, wrapped) {
-        None => nothing(),
-        Some(opened) => {
-            let n = opened.count;
-            if n == need {
-                let mut out = [0u8; SA_OCTETS];
-                octets::copying::copy(&opened.octets[..n], &mut out);
-                return CopyOpened {
-                    found: CopyFound::Key,
-                    octets: out,
-                    count: n,
-                };
-            }
-            conflict()
-        }
+    let Some(opened) = open_under(tables, schedule, wrapped) else {
+        return nothing();
+    };
+    let size = opened.count;
+    if size != need {
+        return conflict();
+    }
+    let mut octets = [0u8; SA_OCTETS];
+    octets::copying::copy(&opened.octets[..need], &mut octets);
+    CopyOpened {
+        found: CopyFound::Key,
+        octets,
+        count: need,
     }
 }
