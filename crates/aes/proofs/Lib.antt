@@ -1,3 +1,4 @@
+pub mod Rotations
 pub mod Turns
 pub mod Bytes
 pub mod Held

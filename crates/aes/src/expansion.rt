@@ -12,7 +12,7 @@ ghost use Rattle.aes.specs.inner.Expanding.{ExpandedTo, Placed};
 ghost use Rattle.aes.specs.inner.Inverse.{unmixed_of, inverse_word_of};
 
 use crate::SCHEDULE_WORDS;
-use crate::words::{column, join, last_column, rotated24};
+use crate::words::{column, join, last_column};
 
 // Computes XTIMES(`x`).
 fn times2(x: u8) -> u8
@@ -52,7 +52,7 @@ fn temp_at(t: &[u32], at: usize, nk: usize, p: WordPlace, x: u32) -> u32
     ensures { (w : List ℕ) (i : ℕ) → Placed nk i p → word_octets x ≡ word w (i - 1) → word_octets result ≡ temp nk w i }
 {
     if p.word == 0 {
-        let y = rotated24(x);
+        let y = x.rotate_right(24);
         return last_column(t, at, y, y, y, y, join(p.constant, 0, 0, 0));
     }
     if 6 < nk && p.word == 4 {

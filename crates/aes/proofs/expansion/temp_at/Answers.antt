@@ -1,5 +1,7 @@
 use mir.Syntax.{w32}
 use mir.Val.{Fits}
+use mathlib.Core.Path.{◌∙◌}
+use Rattle.aes.proofs.Rotations.{ror24-is}
 use Rattle.aes.proofs.Growing.{rotated, subbed, left-long, left-short}
 use borrow.Author.Rules.{rules}
 use Rattle.aes.proofs.expansion.temp_at.Goals as goal
@@ -12,7 +14,7 @@ returns-then-p-eq0 c =
     let a = c.args in
     let f : Fits w32 a.x = search rules in
     rotated a.t.now a.at c.requires.1 a.nk a.x a.p c.if-p-eq0.true f.fits
-    c.rotated24-y.ensures c.join.ensures c.last_column.ensures
+    (c.rotate_right-y.ensures ∙ ror24-is a.x f.fits) c.join.ensures c.last_column.ensures
 
 pub returns-then-p-eq4 : goal.returns-then-p-eq4
 returns-then-p-eq4 c =
