@@ -18,7 +18,6 @@ use crate::numbers::Refusal;
 use check_admission::number2::number_2;
 use check_admission::number3::number_3;
 use state::State;
-use wire_frames::HeaderRead;
 use wire_frames::exchanges::{Exchange, exchange_of};
 
 // Judges numbers 4 to 7 for frame `s` with the facts `x`. `row` is the row of its exchange, `lent` the lent key.
@@ -82,19 +81,16 @@ pub fn refusal(state: State, s: &[u8], lent: &[u8], tick: u32) -> Result<Facts, 
         VerdictBy (refusalOf limits state tick lent.now f) (frame_facts_of state.profile (row_of f) s.now) result }
 {
     match wire_frames::read_header(s) {
-        HeaderRead::Header {
-            first: _,
-            exchange,
-            message_id,
-        } => {
+        Some(header) => {
+            let exchange = header.exchange;
             if number_2(state, exchange, &s[0..16], tick) {
                 return Err(Refusal::NotForMember);
             }
-            if number_3(state, exchange, message_id) {
+            if number_3(state, exchange, header.message_id) {
                 return Err(Refusal::Replayed);
             }
             on_frame(state, exchange_of(exchange), s, lent, tick)
         }
-        HeaderRead::Broken => unreachable!(),
+        None => unreachable!(),
     }
 }

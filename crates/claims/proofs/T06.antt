@@ -6,7 +6,7 @@ use mathlib.Core.Logic.{◌↔◌, ◌⊎◌}
 use mathlib.Core.Path.{◌≡◌}
 use lib.ListN.{length}
 use Rattle.octets.specs.Walk.{broken}
-use Rattle.wire_attributes.specs.Answers.{spot_of}
+use Rattle.wire_attributes.specs.Answers.{broken_at, spot_of}
 use Rattle.wire_attributes.specs.Breaks.{FaultOfAttribute}
 use Rattle.wire_attributes.specs.Layout.{attribute}
 use Rattle.wire_attributes.specs.declared.tables.Place.{Place}
@@ -16,21 +16,19 @@ use Rattle.wire_frames.specs.Grammar.{IsFrame}
 use Rattle.gikev2.specs.Receive.{Receives, number_of, figure_of}
 use Rattle.gikev2.specs.declared.Member.{Member}
 use Rattle.gikev2.specs.declared.call.Answer.{Answer}
-use Rattle.wire_attributes.specs.declared.Spot.TheVariants as spot
-use Rattle.wire_attributes.specs.declared.Layout.TheVariants as layout
 use Rattle.gikev2.specs.declared.call.Answer.TheVariants as answer
 use Rattle.wire_attributes.proofs.BreakLaws as ofBreakLaws
 use Rattle.wire_frames.proofs.FrameBreaks as ofFrameBreaks
 use Rattle.gikev2.proofs.Where as ofWhere
 pub use Rattle.wire_frames.proofs.AllBreaks.{too_long, key-too-long}
 
-pub spot-broken : (p : Place) (b : ℕ) (s : List ℕ) (o : ℕ) → (spot_of s (attribute p b s) ≡ spot.Broken o) ↔ (FaultOfAttribute p s × (o ≡ b))
+pub spot-broken : (p : Place) (b : ℕ) (s : List ℕ) (o : ℕ) → (spot_of s (attribute p b s) ≡ broken_at o) ↔ (FaultOfAttribute p s × (o ≡ b))
 spot-broken = ofBreakLaws.spot-broken
 
 pub broken-exactly : (profile : Bool) (s : List ℕ) (o : ℕ) → (frame profile s ≡ broken o) ↔ BreaksFrame profile s o
 broken-exactly = ofFrameBreaks.broken-exactly
 
-pub layout-broken : (profile : Bool) (s : List ℕ) (o : ℕ) → (frame_layout profile s ≡ layout.Broken o) ↔ BreaksFrame profile s o
+pub layout-broken : (profile : Bool) (s : List ℕ) (o : ℕ) → (frame_layout profile s ≡ broken_at o) ↔ BreaksFrame profile s o
 layout-broken = ofFrameBreaks.layout-broken
 
 pub one-break : (profile : Bool) (s : List ℕ) (m n : ℕ) → BreaksFrame profile s m → BreaksFrame profile s n → m ≡ n

@@ -1,4 +1,6 @@
 -- The answer to a frame: from what is judged of its tree to the outcome, and that the outcome is one.
+use Rattle.wire_attributes.specs.declared.Broken.{Broken}
+use Rattle.std.specs.Prelude.{Result, Ok}
 use native.Mathlib.Omega.{arith}
 use Prim.Native.Nat.{ℕ, zero, suc, ◌≤◌}
 use mathlib.Core.Path.{◌≡◌, refl, ap, sym, subst, ◌∙◌}
@@ -7,9 +9,8 @@ use mathlib.Core.Bool.{Bool}
 use lib.ListN.{get_or}
 use Rattle.octets.specs.Walk.{Reading, whole, broken}
 use Rattle.state_keys.specs.Limits.{limits}
-use Rattle.wire_attributes.specs.Answers.{layout_of}
-use Rattle.wire_attributes.specs.declared.Layout.{Layout}
-use Rattle.wire_attributes.specs.declared.Layout.TheVariants as layout
+use Rattle.wire_attributes.specs.Answers.{broken_at, layout_of}
+use Rattle.wire_attributes.proofs.Loops.{same-place}
 use Rattle.wire_frames.specs.Frame.{Frame, frame, frame_layout, offset_of, figure}
 use Rattle.wire_frames.proofs.FrameGrammar.{read-frame, frame-read}
 use Rattle.state.specs.declared.State.{State}
@@ -49,25 +50,21 @@ module _ (m : State) (now : ℕ) (lent : List ℕ) (f : Frame) where
   judged-refused r e = judged-clauses (number_of_refusal r) (sym e) (λ z. let p = positive r in omega arith)
 
 -- ---- a layout is whole of a tree, or broken
-abbrev code_of : Layout → ℕ
-code_of layout.Whole = 0
-code_of (layout.Broken o) = suc o
-
 module _ (profile : Bool) (s : List ℕ) where
-  whole_by : (x : Reading Frame) → frame profile s ≡ x → layout_of x ≡ layout.Whole → (f : Frame) × (frame profile s ≡ whole f [])
+  whole_by : (x : Reading Frame) → frame profile s ≡ x → layout_of x ≡ Ok tt → (f : Frame) × (frame profile s ≡ whole f [])
   whole_by (whole f rest) e l = (f, frame-read profile s f (read-frame profile s f rest e))
-  whole_by (broken o) e l = let z : suc o ≡ 0 = ap code_of l in absurd (omega arith)
+  whole_by (broken o) e l = cc
 
-  broken-by : (x : Reading Frame) (o : ℕ) → frame profile s ≡ x → layout_of x ≡ layout.Broken o → frame profile s ≡ broken o
-  broken-by (whole f rest) o e l = let z : 0 ≡ suc o = ap code_of l in absurd (omega arith)
-  broken-by (broken p) o e l = let z : suc p ≡ suc o = ap code_of l in let q : p ≡ o = omega arith in e ∙ ap broken q
+  broken-by : (x : Reading Frame) (o : ℕ) → frame profile s ≡ x → layout_of x ≡ broken_at o → frame profile s ≡ broken o
+  broken-by (whole f rest) o e l = cc
+  broken-by (broken p) o e l = e ∙ ap broken (same-place l)
 
-  module _ (r : Layout) (e : r ≡ frame_layout profile s) where
-    pub whole-tree : r ≡ layout.Whole → (f : Frame) × (frame profile s ≡ whole f [])
+  module _ (r : Result (Unit {0}) Broken) (e : r ≡ frame_layout profile s) where
+    pub whole-tree : r ≡ Ok tt → (f : Frame) × (frame profile s ≡ whole f [])
     unfolding frame_layout
     whole-tree l = whole_by (frame profile s) refl (sym e ∙ l)
 
-    pub no-tree : (o : ℕ) → r ≡ layout.Broken o → frame profile s ≡ broken o
+    pub no-tree : (o : ℕ) → r ≡ broken_at o → frame profile s ≡ broken o
     unfolding frame_layout
     no-tree o l = broken-by (frame profile s) o refl (sym e ∙ l)
 

@@ -11,7 +11,6 @@ use check_judging::numbers::Refusal;
 use check_judging::refusal::refusal;
 use receive::deciding::decide;
 use state::State;
-use wire_attributes::Layout;
 
 // What becomes of a frame. Kept as one list and not a `Result`: document 01 numbers acceptance among the answers, as 0.
 #[derive(Clone, Copy, Debug, PartialEq, Eq)]
@@ -124,8 +123,8 @@ impl Member {
     {
         let state = self.state;
         match wire_frames::layout_with_profile(state.profile, frame) {
-            Layout::Broken(at) => self.refuse(Answer::BrokenLayout(at)),
-            Layout::Whole => match judge(state, frame, lent, tick) {
+            Err(broken) => self.refuse(Answer::BrokenLayout(broken.at)),
+            Ok(()) => match judge(state, frame, lent, tick) {
                 Ok(next) => Received {
                     answer: Answer::Accepted,
                     member: Member { state: next },

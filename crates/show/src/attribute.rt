@@ -6,7 +6,6 @@ use std::fmt;
 use std::fmt::Write;
 use text_faults::places::{attribute_end, be16_or_0, be32_or_0};
 use text_names::{Hex, tables};
-use wire_attributes::Read;
 use wire_attributes::tables::{Meaning, Place, meaning_in};
 
 // Puts the attributes from `from` to `to`, up to the one that breaks the layout, and why it does.
@@ -35,17 +34,15 @@ pub(crate) fn put_attributes(
 // Puts the attribute that `s` starts with. Its offset in the frame is `at`.
 fn put_attribute_at(w: &mut impl Write, place: Place, s: &[u8], at: usize) -> fmt::Result {
     match wire_attributes::read_attribute(s) {
-        Read::Attribute { kind, end, .. } => {
-            put_attribute(
-                w,
-                place,
-                at,
-                end,
-                kind,
-                wire_attributes::attribute_value(s, 0),
-            )
-        }
-        Read::Cut => Ok(()),
+        Some(a) => put_attribute(
+            w,
+            place,
+            at,
+            a.end,
+            a.kind,
+            wire_attributes::attribute_value(s, 0),
+        ),
+        None => Ok(()),
     }
 }
 

@@ -8,8 +8,6 @@ use std::fmt;
 use std::fmt::Write;
 use text_faults::places::{end_at, octet, part};
 use text_names::tables;
-use wire_attributes::Layout;
-use wire_frames::HeaderRead;
 
 // The Encrypted and Authenticated payload (RFC 7296) and the Encrypted and Authenticated Fragment payload (RFC 7383).
 const ENCRYPTED: usize = 46;
@@ -48,11 +46,11 @@ impl<'a> Shown<'a> {
 // Puts the frame `s`, or why its header breaks.
 pub(crate) fn put_frame(w: &mut impl Write, s: &[u8]) -> fmt::Result {
     match wire_frames::read_header(s) {
-        HeaderRead::Header { first, .. } => {
+        Some(header) => {
             put_header(w, s)?;
-            put_opened(w, s, first)
+            put_opened(w, s, header.first)
         }
-        HeaderRead::Broken => text_faults::of_header(w, s),
+        None => text_faults::of_header(w, s),
     }
 }
 
@@ -67,7 +65,7 @@ fn put_opened(w: &mut impl Write, s: &[u8], first: usize) -> fmt::Result {
         );
     }
     match wire_frames::frame_layout(s) {
-        Layout::Whole => {
+        Ok(()) => {
             put_payloads(
                 w,
                 Shown {
@@ -77,16 +75,16 @@ fn put_opened(w: &mut impl Write, s: &[u8], first: usize) -> fmt::Result {
             )?;
             text_refusals::put_applying(w, s)
         }
-        Layout::Broken(stop) => {
+        Err(broken) => {
             put_payloads(
                 w,
                 Shown {
                     octets: s,
-                    stop: Some(stop),
+                    stop: Some(broken.at),
                 },
             )?;
             // Payloads that do not end with the frame count for the header.
-            if stop == 0 {
+            if broken.at == 0 {
                 text_faults::of_chain(w, s)?;
             }
             Ok(())

@@ -3,7 +3,6 @@ use ikev2_numbers::{HEADER, LENGTH_AT};
 use std::fmt;
 use std::fmt::Write;
 use text_faults::places::be32_or_0;
-use wire_attributes::Layout;
 
 // The size of a tick in octets.
 pub(crate) const TICK: usize = 4;
@@ -18,7 +17,7 @@ pub(crate) fn is_key(number: usize, digits: usize) -> bool {
 }
 
 fn is_whole(s: &[u8]) -> bool {
-    matches!(wire_frames::frame_layout(s), Layout::Whole)
+    wire_frames::frame_layout(s).is_ok()
 }
 
 // Whether the length field of the header of `s` is `s.len()`.

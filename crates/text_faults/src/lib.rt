@@ -11,7 +11,6 @@ use ikev2_numbers::{
 };
 use std::fmt;
 use std::fmt::Write;
-use wire_attributes::Read;
 use wire_attributes::tables::{Meaning, Place};
 
 pub mod places;
@@ -191,17 +190,12 @@ pub fn of_transform(w: &mut impl Write, s: &[u8], offset: usize) -> fmt::Result 
 pub fn of_attribute(w: &mut impl Write, place: Place, s: &[u8], offset: usize) -> fmt::Result {
     breaks(w, offset, "attribute: ")?;
     match wire_attributes::read_attribute(s) {
-        Read::Attribute {
-            short,
-            kind,
-            start,
-            end,
-        } => {
-            write!(w, "{}", text_names::tables::attribute(place, kind))?;
-            let meaning = wire_attributes::tables::meaning_in(place, kind);
-            of_format(w, meaning, short, end.saturating_sub(start))
+        Some(a) => {
+            write!(w, "{}", text_names::tables::attribute(place, a.kind))?;
+            let meaning = wire_attributes::tables::meaning_in(place, a.kind);
+            of_format(w, meaning, a.short, a.end.saturating_sub(a.start))
         }
-        Read::Cut => of_cut(w, place, s),
+        None => of_cut(w, place, s),
     }
 }
 

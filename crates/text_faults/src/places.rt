@@ -2,7 +2,6 @@
 ghost use Rattle.std.specs.Prelude.{◌<◌, ◌≤◌};
 
 use ikev2_numbers::STRUCTURE_LENGTH_AT;
-use wire_attributes::Read;
 
 // Answers the octets of `s` from `from` up to `to`, or none if these are not all within `s`.
 pub fn part(s: &[u8], from: usize, to: usize) -> &[u8] {
@@ -53,18 +52,8 @@ pub fn attribute_end(s: &[u8], at: usize, to: usize) -> usize
     ensures { (at < result) × (result ≤ to) }
 {
     match wire_attributes::read_attribute(part(s, at, to)) {
-        Read::Attribute {
-            short: _,
-            kind: _,
-            start: _,
-            end,
-        } => {
-            if end == 0 || to - at < end {
-                return to;
-            }
-            at + end
-        }
-        Read::Cut => to,
+        Some(a) if 0 < a.end && a.end <= to - at => at + a.end,
+        _ => to,
     }
 }
 

@@ -18,7 +18,6 @@ use ikev2_numbers::EXCHANGE_AT;
 use state_keys::kinds::WrappingKey;
 use std::fmt;
 use std::fmt::Write;
-use wire_attributes::Layout;
 use wire_frames::exchanges::{Exchange, exchange_of};
 
 mod text;
@@ -89,7 +88,7 @@ fn of_frame(s: &[u8]) -> ClauseFound
 // Puts a line for each clause that applies to the frame `s`, or a line saying that none does. Puts nothing if the layout of `s` is broken.
 pub fn put_applying(w: &mut impl Write, s: &[u8]) -> fmt::Result {
     match wire_frames::frame_layout(s) {
-        Layout::Whole => text::put_lines(w, of_frame(s)),
-        Layout::Broken(_) => Ok(()),
+        Ok(()) => text::put_lines(w, of_frame(s)),
+        Err(_) => Ok(()),
     }
 }

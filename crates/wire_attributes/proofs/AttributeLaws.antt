@@ -1,12 +1,12 @@
 -- What the code's tests say of the attribute that some octets start with.
-use Prim.Native.Nat.{ℕ, ◌+◌, ◌-◌, ◌%◌, ◌<◌, ◌≤◌}
+use Rattle.std.specs.Prelude.{Ok, Some, None}
+use Prim.Native.Nat.{ℕ, ◌+◌, ◌-◌, ◌≤◌}
 use mathlib.Core.Path.{◌≡◌, refl, ap, sym, ◌∙◌}
-use mathlib.Core.List.{List, []}
+use mathlib.Core.List.{List}
 use mathlib.Core.Bool.{Bool, true, false, cond}
 use native.Mathlib.Omega.{arith}
-use borrow.Author.Tests.{le-leb, lt-leb, leb-true}
-use lib.Dec.{leb}
-use lib.ListN.{length, drop, length-drop}
+use borrow.Author.Tests.{leb-true}
+use lib.ListN.{length, drop}
 use lib.Seq.{drop-drop}
 use Rattle.lists.proofs.Cases.{and_parts}
 use Rattle.octets.specs.Walk.{be16, part}
@@ -16,11 +16,10 @@ use Rattle.octets.proofs.Walks.{by-test, part_length, Takes, took}
 use Rattle.wire_attributes.specs.Attribute.{attribute_of}
 use Rattle.wire_attributes.specs.Place.{meaning_of, format_fits}
 use Rattle.wire_attributes.specs.Layout.{formed_in, fits_in, attribute}
-use Rattle.wire_attributes.specs.Answers.{read_of, value_at, value_start, spot_of}
+use Rattle.wire_attributes.specs.Answers.{broken_at, head_of, read_of, value_at, value_start, spot_of}
 use Rattle.wire_attributes.specs.declared.tables.Place.{Place}
-use Rattle.wire_attributes.specs.declared.Spot.TheVariants as spot
+use Rattle.wire_attributes.specs.declared.AttributeHead.{AttributeHead}
 use Rattle.wire_attributes.proofs.Loops.{ends_at}
-use Rattle.wire_attributes.specs.declared.Read.TheVariants as read
 
 pub size-least : (s : List ℕ) → 4 ≤ attribute_size s
 size-least s = go (is_short s)
@@ -36,34 +35,7 @@ value-inside s = go (is_short s)
     go true = omega arith
     go false = omega arith
 
-module _ (s : List ℕ) where
-  pub cut : length s < 4 → read.Cut ≡ read_of s
-  cut h =
-      let f : leb (attribute_size s) (length s) ≡ false = lt-leb (attribute_size s) (length s) (omega (arith, size-least s)) in
-      sym (ap (λ (t : Bool). cond t (read.Attribute (is_short s) (kind_of s) (value_offset s) (attribute_size s)) read.Cut) f)
-
-  module _ (h : 4 ≤ length s) (t : ℕ) (e : t ≡ be16 s 0) where
-    first-is : be16 s 0 ≡ t
-    first-is = sym e
-
-    pub short : 32768 ≤ t → read.Attribute true (t % 32768) 2 4 ≡ read_of s
-    short k = simp (first-is, le-leb 32768 t k, le-leb 4 (length s) h)
-
-    module _ (k : t < 32768) (n : ℕ) (f : n ≡ be16 s 2) where
-      second_is : be16 s 2 ≡ n
-      second_is = sym f
-
-      pub long-cut : length s - 4 < n → read.Cut ≡ read_of s
-      long-cut l =
-          let j : length s < 4 + n = omega arith in
-          simp (first-is, second_is, lt-leb 32768 t k, lt-leb (4 + n) (length s) j)
-
-      pub long : n ≤ length s - 4 → read.Attribute false (t % 32768) 4 (4 + n) ≡ read_of s
-      long l =
-          let j : 4 + n ≤ length s = omega arith in
-          simp (first-is, second_is, lt-leb 32768 t k, le-leb (4 + n) (length s) j)
-
--- what an answer of `attribute_read` says
+-- what an answer of `read_attribute` says
 pub record IsRead (s : List ℕ) (short : Bool) (kind a e : ℕ) : Type 0 where
   pub all : fits s ≡ true
   pub format : is_short s ≡ short
@@ -71,21 +43,26 @@ pub record IsRead (s : List ℕ) (short : Bool) (kind a e : ℕ) : Type 0 where
   pub start : value_offset s ≡ a
   pub size : attribute_size s ≡ e
 
-pub read_is : (s : List ℕ) (short : Bool) (kind a e : ℕ) → read.Attribute short kind a e ≡ read_of s → IsRead s short kind a e
-read_is s short kind a e = go (fits s) refl
+pub read_is : (s : List ℕ) (h : AttributeHead) → Some h ≡ read_of s → IsRead s h.short h.kind h.start h.end
+read_is s h = go (fits s) refl
   where
-    go : (t : Bool) → fits s ≡ t → read.Attribute short kind a e ≡ cond t (read.Attribute (is_short s) (kind_of s) (value_offset s)
-        (attribute_size s)) read.Cut
-        → IsRead s short kind a e
-    go true f q = record { all = f; format = cc; type = cc; start = cc; size = cc }
-    go false f q = let z : ◌≡◌ {A = ℕ} 0 1 = cc in absurd (omega arith)
+    go : (t : Bool) → fits s ≡ t → Some h ≡ cond t (Some (head_of s)) None → IsRead s h.short h.kind h.start h.end
+    go true f q =
+        let u : head_of s ≡ h = cc in
+        record {
+          all = f;
+          format = ap (λ (x : AttributeHead). x.short) u;
+          type = ap (λ (x : AttributeHead). x.kind) u;
+          start = ap (λ (x : AttributeHead). x.start) u;
+          size = ap (λ (x : AttributeHead). x.end) u;
+        }
+    go false f q = cc
 
-pub cut-is : (s : List ℕ) → read.Cut ≡ read_of s → fits s ≡ false
+pub cut-is : (s : List ℕ) → None ≡ read_of s → fits s ≡ false
 cut-is s = go (fits s) refl
   where
-    go : (t : Bool) → fits s ≡ t → read.Cut ≡ cond t (read.Attribute (is_short s) (kind_of s) (value_offset s) (attribute_size s)) read.Cut
-        → fits s ≡ false
-    go true f q = let z : ◌≡◌ {A = ℕ} 0 1 = cc in absurd (omega arith)
+    go : (t : Bool) → fits s ≡ t → None ≡ cond t (Some (head_of s)) None → fits s ≡ false
+    go true f q = cc
     go false f q = f
 
 pub read-inside : (s : List ℕ) (short : Bool) (kind a e : ℕ) → IsRead s short kind a e → (a ≤ e) × (e ≤ length s) × (4 ≤ e)
@@ -104,28 +81,12 @@ module _ (s : List ℕ) (at : ℕ) where
       let d : at + e - (at + a) ≡ e - a = omega arith in
       rw (f.all, f.start, f.size, d, drop-drop a at s)
 
-  pub value_none : fits (drop at s) ≡ false → [] ≡ value_at (drop at s)
-  value_none f = rw f
-
-  pub value-past : length s < at → [] ≡ value_at (drop at s)
-  value-past h =
-      let l : length (drop at s) ≡ 0 = rw length-drop (omega arith) in
-      value_none (lt-leb (attribute_size (drop at s)) (length (drop at s)) (omega (arith, size-least (drop at s))))
-
   pub starts-there : (short : Bool) (kind a e : ℕ) → IsRead (drop at s) short kind a e → at + a ≡ value_start s at
   starts-there short kind a e f = rw (f.all, f.start)
 
-  pub starts_none : fits (drop at s) ≡ false → 0 ≡ value_start s at
-  starts_none f = rw f
-
-  pub starts-past : length s < at → 0 ≡ value_start s at
-  starts-past h =
-      let l : length (drop at s) ≡ 0 = rw length-drop (omega arith) in
-      starts_none (lt-leb (attribute_size (drop at s)) (length (drop at s)) (omega (arith, size-least (drop at s))))
-
 -- in its place
 module _ (p : Place) (b : ℕ) (s : List ℕ) where
-  pub cut_in : fits s ≡ false → spot.Broken b ≡ spot_of s (attribute p b s)
+  pub cut_in : fits s ≡ false → broken_at b ≡ spot_of s (attribute p b s)
   unfolding attribute
   cut_in f = rw f
 
@@ -137,14 +98,14 @@ module _ (p : Place) (b : ℕ) (s : List ℕ) where
           let l : length (value_octets s) ≡ e - a = rw (f.start, f.size) (part_length s a e i.0 i.1) in
           rw (f.all, l, f.type, f.format) (sym q)
 
-      pub formed-in : k ≡ true → spot.Ends e ≡ spot_of s (attribute p b s)
+      pub formed-in : k ≡ true → Ok e ≡ spot_of s (attribute p b s)
       unfolding attribute
       formed-in t =
           let g : fits_in p s ≡ true = formed-is ∙ t in
-          ap spot.Ends (sym f.size) ∙ ends_at s (attribute_of s) (attribute_size s) (leb-true (attribute_size s) (length s) f.all)
+          ap Ok (sym f.size) ∙ ends_at s (attribute_of s) (attribute_size s) (leb-true (attribute_size s) (length s) f.all)
           ∙ ap (λ (t : Bool). spot_of s (opened b t (whole (attribute_of s) (drop (attribute_size s) s)))) (sym g)
 
-      pub not-formed : k ≡ false → spot.Broken b ≡ spot_of s (attribute p b s)
+      pub not-formed : k ≡ false → broken_at b ≡ spot_of s (attribute p b s)
       unfolding attribute
       not-formed t =
           let g : fits_in p s ≡ false = formed-is ∙ t in

@@ -1,13 +1,13 @@
 -- The tables of attributes row by row, as the RFCs print them. The numbers stand here once more, so that a slip made alike in the
 -- definitions and in the code does not pass.
+use Rattle.std.specs.Prelude.{Ok}
 use Prim.Native.Nat.{ℕ}
 use mathlib.Core.Path.{◌≡◌, refl}
 use mathlib.Core.List.{List, [], ◌∷◌, map}
 use mathlib.Core.Bool.{Bool, true, false}
-use Rattle.wire_attributes.specs.Answers.{layout_number, layout_offset}
+use Rattle.wire_attributes.specs.Answers.{broken_at, layout_number, layout_offset}
 use Rattle.wire_attributes.specs.Attribute.{attribute_of}
 use Rattle.wire_attributes.specs.Place.{meaning_of, format_fits, in_transform, in_policy, in_bag}
-use Rattle.wire_attributes.specs.declared.Layout.TheVariants as layout
 use Rattle.wire_attributes.specs.declared.tables.Place.{Place}
 use Rattle.wire_attributes.specs.declared.tables.Place.TheVariants as place
 use Rattle.wire_attributes.specs.declared.tables.Meaning.{Meaning}
@@ -169,6 +169,6 @@ unfolding number
 long-octets = refl
 
 -- ---- what a layout is called: document 01's numbers, and the offset that number 1 alone carries
-pub layout-named : (map layout_number (layout.Whole ∷ layout.Broken 0 ∷ layout.Broken 9 ∷ []) ≡ 0 ∷ 1 ∷ 1 ∷ [])
-    × (map layout_offset (layout.Whole ∷ layout.Broken 0 ∷ layout.Broken 9 ∷ []) ≡ [] ∷ (0 ∷ []) ∷ (9 ∷ []) ∷ [])
+pub layout-named : (map layout_number (Ok tt ∷ broken_at 0 ∷ broken_at 9 ∷ []) ≡ 0 ∷ 1 ∷ 1 ∷ [])
+    × (map layout_offset (Ok tt ∷ broken_at 0 ∷ broken_at 9 ∷ []) ≡ [] ∷ (0 ∷ []) ∷ (9 ∷ []) ∷ [])
 layout-named = (refl, refl)

@@ -14,10 +14,10 @@ use Rattle.octets.proofs.BreakLaws.{not-broken, structure-to, structure-from, ro
 use Rattle.wire_attributes.specs.Attribute.{Attribute, is_short, attribute_size, attribute_of, fits}
 use Rattle.wire_attributes.specs.Layout.{formed_in, fits_in, attribute, attributes}
 use Rattle.wire_attributes.specs.Grammar.{IsAttribute}
-use Rattle.wire_attributes.specs.Answers.{spot_of}
-use Rattle.wire_attributes.specs.declared.Spot.TheVariants as spot
+use Rattle.wire_attributes.specs.Answers.{broken_at, spot_of}
 use Rattle.wire_attributes.specs.Breaks.{FaultOfAttribute, cut, runs_past, unformed, BreaksAttribute, BreaksAttributes}
 use Rattle.wire_attributes.specs.declared.tables.Place.{Place}
+use Rattle.wire_attributes.proofs.Loops.{same-place}
 use Rattle.wire_attributes.proofs.AttributeLaws.{size-least, takes}
 use Rattle.wire_attributes.proofs.GrammarLaws.{same_size, same-attribute, formats, format-size, format-says, sound, complete}
 
@@ -89,15 +89,15 @@ module _ (p : Place) where
 
   -- "The reader of one attribute shall report, with its refusal, the offset in the opened frame at which the attribute starts": what
   -- `attribute_in` answers where the attribute breaks, and that it is the offset it was given
-  pub spot-broken : (b : ℕ) (s : List ℕ) (o : ℕ) → (spot_of s (attribute p b s) ≡ spot.Broken o) ↔ (FaultOfAttribute p s × (o ≡ b))
+  pub spot-broken : (b : ℕ) (s : List ℕ) (o : ℕ) → (spot_of s (attribute p b s) ≡ broken_at o) ↔ (FaultOfAttribute p s × (o ≡ b))
   spot-broken b s o = (
     λ q. parts (attribute-to b s o (go (attribute p b s) refl q)),
     λ i. ap (spot_of s) (attribute-from b s o (own i.0 i.1)),
   )
     where
-      go : (y : Reading Attribute) → attribute p b s ≡ y → spot_of s y ≡ spot.Broken o → attribute p b s ≡ broken o
-      go (whole a rest) e q = let z : ◌≡◌ {A = ℕ} 0 1 = cc in absurd (omega arith)
-      go (broken m) e q = let u : m ≡ o = cc in e ∙ ap broken u
+      go : (y : Reading Attribute) → attribute p b s ≡ y → spot_of s y ≡ broken_at o → attribute p b s ≡ broken o
+      go (whole a rest) e q = cc
+      go (broken m) e q = e ∙ ap broken (same-place q)
 
       parts : BreaksAttribute p b s o → FaultOfAttribute p s × (o ≡ b)
       parts (own f e) = (f, e)

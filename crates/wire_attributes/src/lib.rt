@@ -10,59 +10,47 @@ use ikev2_numbers::{ATTRIBUTE_HEAD, FORMAT_BIT, SHORT_ATTRIBUTE, SHORT_HEAD};
 
 pub mod tables;
 
-// The result of checking a stretch of octets: its layout is whole, or broken, with the offset of the structure that broke first.
-#[derive(Clone, Copy)]
-pub enum Layout {
-    Whole,
-    Broken(usize),
+// Where a layout broke: the offset in the frame of the structure that broke first.
+#[derive(Clone, Copy, Debug, PartialEq, Eq)]
+pub struct Broken {
+    pub at: usize,
 }
 
-// The result of reading what some octets start with: where it ends, counted from the first of them, or the offset of the structure that
-// broke first.
-#[derive(Clone, Copy)]
-pub enum Spot {
-    Ends(usize),
-    Broken(usize),
+// The head of a whole attribute: whether it has the short format (TV), its type, where its value starts and where it ends.
+#[derive(Clone, Copy, Debug, PartialEq, Eq)]
+pub struct AttributeHead {
+    pub short: bool,
+    pub kind: usize,
+    pub start: usize,
+    pub end: usize,
 }
 
-// An attribute: whether it has the short format (TV), its type, where its value starts and where it ends; or one cut short.
-#[derive(Clone, Copy)]
-pub enum Read {
-    Attribute {
-        short: bool,
-        kind: usize,
-        start: usize,
-        end: usize,
-    },
-    Cut,
-}
-
-// Reads the attribute at the start of `s`. It is cut short if `s` has not all its octets.
-pub fn read_attribute(s: &[u8]) -> Read
+// Reads the attribute at the start of `s`. There is none if it is cut short: `s` has not all its octets.
+pub fn read_attribute(s: &[u8]) -> Option<AttributeHead>
     ensures { result ≡ read_of s.now }
 {
     if s.len() < ATTRIBUTE_HEAD {
-        return Read::Cut;
+        return None;
     }
     let t = octets::numbers::be16_at(s, 0);
     if FORMAT_BIT <= t {
-        return Read::Attribute {
+        return Some(AttributeHead {
             short: true,
             kind: t % FORMAT_BIT,
             start: SHORT_HEAD,
             end: SHORT_ATTRIBUTE,
-        };
+        });
     }
     let n = octets::numbers::be16_at(s, 2);
     if s.len() - ATTRIBUTE_HEAD < n {
-        return Read::Cut;
+        return None;
     }
-    Read::Attribute {
+    Some(AttributeHead {
         short: false,
         kind: t % FORMAT_BIT,
         start: ATTRIBUTE_HEAD,
         end: ATTRIBUTE_HEAD + n,
-    }
+    })
 }
 
 // Answers the value of the attribute at index `at` of `s`, as a slice of `s`; empty if no whole attribute stands there.
@@ -74,56 +62,33 @@ pub fn attribute_value(s: &[u8], at: usize) -> &[u8]
         return &s[0..0];
     }
     match read_attribute(&s[at..]) {
-        Read::Attribute {
-            short: _,
-            kind: _,
-            start,
-            end,
-        } => {
-            let a = at + start;
-            let e = at + end;
-            &s[a..e]
-        }
-        Read::Cut => &s[0..0],
+        Some(a) => &s[at + a.start..at + a.end],
+        None => &s[0..0],
     }
 }
 
 // Reads the attribute at the start of `s` and answers where it ends. An attribute that is cut short, or has not the format and size that
 // `place` asks for, is broken at `base`, the offset of `s` in the frame.
-pub fn attribute_in(place: tables::Place, s: &[u8], base: usize) -> Spot
+pub fn attribute_in(place: tables::Place, s: &[u8], base: usize) -> Result<usize, Broken>
     ensures { result ≡ spot_of s.now (attribute place base s.now) }
 {
-    match read_attribute(s) {
-        Read::Attribute {
-            short,
-            kind,
-            start,
-            end,
-        } => {
-            if tables::is_formed(tables::meaning_in(place, kind), short, end - start) {
-                return Spot::Ends(end);
-            }
-            Spot::Broken(base)
-        }
-        Read::Cut => Spot::Broken(base),
+    let broken = Broken { at: base };
+    let a = read_attribute(s).ok_or(broken)?;
+    if !tables::is_formed(tables::meaning_in(place, a.kind), a.short, a.end - a.start) {
+        return Err(broken);
     }
+    Ok(a.end)
 }
 
 // Checks that `s` is attributes of `place`, one after the other to its end; `base` is the offset of `s` in the frame.
-pub fn are_attributes(place: tables::Place, s: &[u8], base: usize) -> Layout
+pub fn are_attributes(place: tables::Place, s: &[u8], base: usize) -> Result<(), Broken>
     requires { base + length s.now < 4294967296 }
     ensures { result ≡ layout_of (attributes place base s.now) }
 {
+    // Kept as a loop of its own: over a closure it would need a contract on what is read and where it ends, longer than the loop.
     let mut at = 0;
     while at < s.len() {
-        match attribute_in(place, &s[at..], base + at) {
-            Spot::Ends(e) => {
-                at = at + e;
-            }
-            Spot::Broken(o) => {
-                return Layout::Broken(o);
-            }
-        }
+        at += attribute_in(place, &s[at..], base + at)?;
     }
-    Layout::Whole
+    Ok(())
 }

@@ -1,4 +1,6 @@
 -- What the readers' answers say of a key bag, with what it holds.
+use Rattle.wire_attributes.specs.declared.Broken.{Broken}
+use Rattle.std.specs.Prelude.{Result, Ok}
 use Prim.Native.Nat.{ℕ, ◌+◌}
 use mathlib.Core.Path.{◌≡◌, ap, sym, ◌∙◌}
 use mathlib.Core.List.{List}
@@ -10,10 +12,7 @@ use Rattle.octets.specs.Walk.{be16, part, Reading, mapped, within}
 use Rattle.octets.proofs.Walks.{Takes, took, takes-mapped, takes-closed, opened-is, opened-not, takes-opened}
 use Rattle.wire_attributes.specs.Attribute.{Attribute}
 use Rattle.wire_attributes.specs.Layout.{attributes}
-use Rattle.wire_attributes.specs.Answers.{layout_of, spot_of}
-use Rattle.wire_attributes.specs.declared.Layout.{Layout}
-use Rattle.wire_attributes.specs.declared.Layout.TheVariants as layout
-use Rattle.wire_attributes.specs.declared.Spot.TheVariants as spot
+use Rattle.wire_attributes.specs.Answers.{broken_at, layout_of, spot_of}
 use Rattle.wire_attributes.specs.declared.tables.Place.{Place}
 use Rattle.wire_attributes.proofs.Loops.{held_whole, held-broken, spot-mapped}
 use Rattle.wire_policies.specs.Policy.{head_size, head_fits}
@@ -25,13 +24,13 @@ module _ (fresh : Bool) where
     holds : Reading (List Attribute)
     holds = within (head_size s) (be16 s 2) (attributes (place_of fresh (oct s 0))) b s
 
-    pub bad : head_fits s ≡ false → spot.Broken b ≡ spot_of s (bag fresh b s)
+    pub bad : head_fits s ≡ false → broken_at b ≡ spot_of s (bag fresh b s)
     unfolding bag holds
     bad e = sym (ap (spot_of s) (opened-not b (head_fits s) (mapped (bag_of fresh s) holds) e))
 
     module _ (fit : head_fits s ≡ true) (z n : ℕ) (p : Place) (zq : z ≡ head_size s) (nq : n ≡ be16 s 2)
         (pq : p ≡ place_of fresh (oct s 0)) where
-      inner : (y : Layout) → y ≡ layout_of (attributes p (b + z) (part s z n))
+      inner : (y : Result (Unit {0}) Broken) → y ≡ layout_of (attributes p (b + z) (part s z n))
           → y ≡ layout_of (attributes (place_of fresh (oct s 0)) (b + head_size s) (part s (head_size s) (be16 s 2)))
       inner y q =
           q ∙ ap (λ (u : ℕ). layout_of (attributes p (b + u) (part s u n))) zq
@@ -42,16 +41,16 @@ module _ (fresh : Bool) where
       unfolding bag holds
       out = spot-mapped (bag_of fresh s) s holds ∙ sym (ap (spot_of s) (opened-is b (head_fits s) (mapped (bag_of fresh s) holds) fit))
 
-      pub good : layout.Whole ≡ layout_of (attributes p (b + z) (part s z n)) → spot.Ends n ≡ spot_of s (bag fresh b s)
+      pub good : Ok tt ≡ layout_of (attributes p (b + z) (part s z n)) → Ok n ≡ spot_of s (bag fresh b s)
       unfolding holds
       good q =
-          ap spot.Ends nq
-          ∙ held_whole (attributes (place_of fresh (oct s 0))) b s (head_size s) (be16 s 2) (head-is s fit).1 (inner layout.Whole q) ∙ out
+          ap Ok nq
+          ∙ held_whole (attributes (place_of fresh (oct s 0))) b s (head_size s) (be16 s 2) (head-is s fit).1 (inner (Ok tt) q) ∙ out
 
-      pub inner-broken : (o : ℕ) → layout.Broken o ≡ layout_of (attributes p (b + z) (part s z n)) → spot.Broken o ≡ spot_of s (bag fresh b s)
+      pub inner-broken : (o : ℕ) → broken_at o ≡ layout_of (attributes p (b + z) (part s z n)) → broken_at o ≡ spot_of s (bag fresh b s)
       unfolding holds
       inner-broken o q =
-          held-broken (attributes (place_of fresh (oct s 0))) b s (head_size s) (be16 s 2) o (inner (layout.Broken o) q) ∙ out
+          held-broken (attributes (place_of fresh (oct s 0))) b s (head_size s) (be16 s 2) o (inner (broken_at o) q) ∙ out
 
   pub takes : (b : ℕ) (s : List ℕ) → Takes s (bag fresh b s)
   unfolding bag

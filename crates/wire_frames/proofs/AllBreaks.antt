@@ -1,5 +1,7 @@
 -- Samples computed on the definitions: where octets break (document 02, T-06). Each row is a frame that is right but for its fault, and the
 -- offset that number 1 carries. The rows of each kind of structure go by the faults of specs/Breaks.
+use Rattle.std.specs.Prelude.{Ok}
+use Rattle.wire_attributes.specs.Answers.{broken_at}
 use Prim.Native.Nat.{ℕ, ◌+◌}
 use mathlib.Core.Path.{◌≡◌, refl}
 use mathlib.Core.List.{List, [], ◌∷◌, ◌++◌, map}
@@ -7,7 +9,6 @@ use mathlib.Core.Bool.{false}
 use lib.ListN.{length, take, replicate}
 use Rattle.octets.specs.Numbers.{number}
 use Rattle.octets.specs.Walk.{chain, chain_up_to, many}
-use Rattle.wire_attributes.specs.declared.Layout.TheVariants as layout
 use Rattle.wire_attributes.specs.Tree.{values_of}
 use Rattle.wire_attributes.specs.Layout.{attribute}
 use Rattle.wire_policies.specs.Selector.{selector}
@@ -25,7 +26,7 @@ abbrev at : ℕ → List ℕ → Break
 at o s = record { octets = s; offset = o }
 
 abbrev AllAt : List Break → Type 0
-AllAt l = map (λ (x : Break). frame_layout false x.octets) l ≡ map (λ (x : Break). layout.Broken x.offset) l
+AllAt l = map (λ (x : Break). frame_layout false x.octets) l ≡ map (λ (x : Break). broken_at x.offset) l
 
 -- ---- octets with right lengths. The header: the kind of the first payload, the version, the length
 abbrev header : ℕ → ℕ → ℕ → List ℕ
@@ -295,7 +296,7 @@ unfolding frame_layout frame payload body policy suite sa_body selector transfor
 samples-break = refl
 
 -- over 16,384 octets, and right but for that: one payload in a frame of 16,385
-pub too_long : frame_layout false (take 24 (header 41 32 0) ++ (0 ∷ 0 ∷ 64 ∷ 1 ∷ 0 ∷ 0 ∷ 63 ∷ 229 ∷ replicate 16353 0)) ≡ layout.Broken 0
+pub too_long : frame_layout false (take 24 (header 41 32 0) ++ (0 ∷ 0 ∷ 64 ∷ 1 ∷ 0 ∷ 0 ∷ 63 ∷ 229 ∷ replicate 16353 0)) ≡ broken_at 0
 unfolding frame_layout frame number
 too_long = refl
 
@@ -305,7 +306,7 @@ long_key n =
     take 24 (header 52 32 0)
     ++ (0 ∷ 0 ∷ 1 ∷ (44 + n) ∷ 0 ∷ 0 ∷ 1 ∷ (16 + n) ∷ 3 ∷ 4 ∷ 1 ∷ (12 + n) ∷ 9 ∷ 8 ∷ 7 ∷ 6 ∷ 0 ∷ 1 ∷ 1 ∷ n ∷ replicate (256 + n) 0)
 
-pub key-too-long : map (frame_layout false) (long_key 16 ∷ long_key 24 ∷ []) ≡ layout.Whole ∷ layout.Broken 40 ∷ []
+pub key-too-long : map (frame_layout false) (long_key 16 ∷ long_key 24 ∷ []) ≡ Ok tt ∷ broken_at 40 ∷ []
 unfolding frame_layout frame payload body bag attribute many chain chain_up_to number values_of
 key-too-long = refl
 
@@ -320,6 +321,6 @@ pub wholes-whole :
     suited (tf 0 5 [] ++ (hour ++ hour)) ∷ of_ah hour ∷ of_rekey (hour ++ (0 ∷ 2 ∷ 0 ∷ 4 ∷ 0 ∷ 0 ∷ 0 ∷ 7 ∷ [])) ∷
     -- in a group-wide policy attribute 1 is another one, in any form
     gsa (wide (128 ∷ 1 ∷ 0 ∷ 4 ∷ 0 ∷ 1 ∷ 0 ∷ 3 ∷ 0 ∷ 14 ∷ 16 ∷ [])) ∷ [])
-    ≡ replicate 12 layout.Whole
+    ≡ replicate 12 (Ok tt)
 unfolding frame_layout frame payload body policy suite sa_body selector transform bag attribute many chain chain_up_to number values_of stretches
 wholes-whole = refl

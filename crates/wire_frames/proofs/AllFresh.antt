@@ -1,5 +1,8 @@
 -- Samples computed on the definitions: where private attribute 16385 is read (document 02, T-11). Each row is a frame of one KD, read for a
 -- member with the profile or without it.
+use Rattle.wire_attributes.specs.declared.Broken.{Broken}
+use Rattle.std.specs.Prelude.{Result, Ok}
+use Rattle.wire_attributes.specs.Answers.{broken_at}
 use Prim.Native.Nat.{ℕ, ◌+◌}
 use mathlib.Core.Path.{◌≡◌, refl}
 use mathlib.Core.List.{List, [], ◌∷◌, ◌++◌, map}
@@ -7,8 +10,6 @@ use mathlib.Core.Bool.{Bool, true, false}
 use lib.ListN.{length, take}
 use Rattle.octets.specs.Numbers.{number}
 use Rattle.octets.specs.Walk.{whole, chain, chain_up_to, many}
-use Rattle.wire_attributes.specs.declared.Layout.{Layout}
-use Rattle.wire_attributes.specs.declared.Layout.TheVariants as layout
 use Rattle.wire_attributes.specs.Tree.{SaKey, WrapKey, values_of}
 use Rattle.wire_attributes.specs.Layout.{attribute}
 use Rattle.wire_bags.specs.Bag.{Bag, group_keys, bag, bags}
@@ -18,13 +19,13 @@ use Rattle.wire_frames.proofs.AllBreaks.{held, wide, esp, sixteen, rekey, ah}
 pub record Row : Type 0 where
   pub profile : Bool
   pub octets : List ℕ
-  pub layout : Layout
+  pub layout : Result (Unit {0}) Broken
 
 -- with the profile, and without it
-abbrev on : Layout → List ℕ → Row
+abbrev on : Result (Unit {0}) Broken → List ℕ → Row
 on l s = record { profile = true; octets = s; layout = l }
 
-abbrev off : Layout → List ℕ → Row
+abbrev off : Result (Unit {0}) Broken → List ℕ → Row
 off l s = record { profile = false; octets = s; layout = l }
 
 -- a frame of the exchange type `x` with the key bags `l`, which start at 32; the attributes of the Rekey SA's bag `rekey` start at 52
@@ -56,31 +57,31 @@ uneven = 64 ∷ 1 ∷ 0 ∷ 28 ∷ (sixteen ++ take 12 sixteen)
 abbrev rows : List Row
 rows =
     -- read in the Rekey SA's bag of a GSA_REKEY, with the profile: "with WRAP_KEY's layout"
-    on layout.Whole (kd_of 41 (rekey entry)) ∷
-    on layout.Whole (kd_of 41 (rekey (copy ++ (entry ++ entry)))) ∷
-    on (layout.Broken 52) (kd_of 41 (rekey short)) ∷
-    on (layout.Broken 52) (kd_of 41 (rekey few)) ∷
-    on (layout.Broken 52) (kd_of 41 (rekey uneven)) ∷
-    on (layout.Broken 80) (kd_of 41 (rekey (copy ++ short))) ∷
-    on (layout.Broken 80) (kd_of 41 (rekey (entry ++ few))) ∷
+    on (Ok tt) (kd_of 41 (rekey entry)) ∷
+    on (Ok tt) (kd_of 41 (rekey (copy ++ (entry ++ entry)))) ∷
+    on (broken_at 52) (kd_of 41 (rekey short)) ∷
+    on (broken_at 52) (kd_of 41 (rekey few)) ∷
+    on (broken_at 52) (kd_of 41 (rekey uneven)) ∷
+    on (broken_at 80) (kd_of 41 (rekey (copy ++ short))) ∷
+    on (broken_at 80) (kd_of 41 (rekey (entry ++ few))) ∷
     -- of this number alone
-    on layout.Whole (kd_of 41 (rekey (192 ∷ 0 ∷ 0 ∷ 0 ∷ 192 ∷ 2 ∷ 0 ∷ 0 ∷ 128 ∷ 0 ∷ 0 ∷ 0 ∷ []))) ∷
+    on (Ok tt) (kd_of 41 (rekey (192 ∷ 0 ∷ 0 ∷ 0 ∷ 192 ∷ 2 ∷ 0 ∷ 0 ∷ 128 ∷ 0 ∷ 0 ∷ 0 ∷ []))) ∷
     -- "with the profile off, the attribute is skipped"
-    off layout.Whole (kd_of 41 (rekey short)) ∷
-    off layout.Whole (kd_of 41 (rekey few)) ∷
-    off layout.Whole (kd_of 41 (rekey (copy ++ uneven))) ∷
+    off (Ok tt) (kd_of 41 (rekey short)) ∷
+    off (Ok tt) (kd_of 41 (rekey few)) ∷
+    off (Ok tt) (kd_of 41 (rekey (copy ++ uneven))) ∷
     -- "Elsewhere .. the attribute is skipped": in a registration, in GSA_INBAND_REKEY, in another exchange
-    on layout.Whole (kd_of 39 (rekey short)) ∷
-    on layout.Whole (kd_of 40 (rekey few)) ∷
-    on layout.Whole (kd_of 42 (rekey uneven)) ∷
-    on layout.Whole (kd_of 34 (rekey short)) ∷
+    on (Ok tt) (kd_of 39 (rekey short)) ∷
+    on (Ok tt) (kd_of 40 (rekey few)) ∷
+    on (Ok tt) (kd_of 42 (rekey uneven)) ∷
+    on (Ok tt) (kd_of 34 (rekey short)) ∷
     -- in the bags of ESP and AH, and in a Member Key Bag
-    on layout.Whole (kd_of 41 (esp short)) ∷
-    on layout.Whole (kd_of 41 (ah few)) ∷
-    on layout.Whole (kd_of 41 (wide uneven)) ∷
+    on (Ok tt) (kd_of 41 (esp short)) ∷
+    on (Ok tt) (kd_of 41 (ah few)) ∷
+    on (Ok tt) (kd_of 41 (wide uneven)) ∷
     -- what breaks any attribute breaks it everywhere
-    off (layout.Broken 52) (kd_of 41 (rekey (64 ∷ 1 ∷ 0 ∷ 17 ∷ sixteen))) ∷
-    on (layout.Broken 40) (kd_of 39 (esp (64 ∷ 1 ∷ 0 ∷ []))) ∷
+    off (broken_at 52) (kd_of 41 (rekey (64 ∷ 1 ∷ 0 ∷ 17 ∷ sixteen))) ∷
+    on (broken_at 40) (kd_of 39 (esp (64 ∷ 1 ∷ 0 ∷ []))) ∷
     []
 
 pub rows-laid : map (λ (r : Row). frame_layout r.profile r.octets) rows ≡ map (λ (r : Row). r.layout) rows

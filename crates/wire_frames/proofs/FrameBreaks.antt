@@ -1,5 +1,6 @@
 -- WHERE A FRAME BREAKS: the reader breaks at an offset exactly when the relation says so; there is one offset at most; octets are a frame
 -- or break, not both; and where the offset lies.
+use Rattle.std.specs.Prelude.{Ok}
 use Prim.Native.Nat.{ℕ, ◌/◌, ◌<◌, ◌≤◌}
 use mathlib.Core.Path.{◌≡◌, refl, ap, sym, ◌∙◌, subst}
 use mathlib.Core.List.{List, [], ◌∷◌}
@@ -16,8 +17,8 @@ use Rattle.octets.proofs.Grammar.{reads, read}
 use Rattle.octets.proofs.BreakLaws.{broken-at, not-broken, mapped-broken, not_left, not_right, one-not}
 use Rattle.octets.proofs.BreakLaws.{structure-to, structure-from, chain-to, chain-from}
 use Rattle.octets.proofs.BreakLaws.{AmongOr, among-chain}
-use Rattle.wire_attributes.specs.Answers.{layout_of}
-use Rattle.wire_attributes.specs.declared.Layout.TheVariants as layout
+use Rattle.wire_attributes.specs.Answers.{broken_at, layout_of}
+use Rattle.wire_attributes.proofs.Loops.{same-place}
 use Rattle.wire_frames.specs.Header.{header_fits}
 use Rattle.wire_frames.specs.Exchange.{reads_fresh}
 use Rattle.wire_frames.specs.Frame.{Payload, payload, none_next, payloads, nothing_left}
@@ -148,19 +149,19 @@ not-both profile s x o i j = not-broken (sym (frame-read profile s x i) ∙ fram
 
 -- the same of what the call on a frame's layout answers
 module _ (profile : Bool) (s : List ℕ) where
-  pub layout-broken : (o : ℕ) → (frame_layout profile s ≡ layout.Broken o) ↔ BreaksFrame profile s o
+  pub layout-broken : (o : ℕ) → (frame_layout profile s ≡ broken_at o) ↔ BreaksFrame profile s o
   unfolding frame_layout
   layout-broken o = (λ q. go (frame profile s) refl q, λ i. ap layout_of (frame-from profile s o i))
     where
-      go : (y : Reading Frame) → frame profile s ≡ y → layout_of y ≡ layout.Broken o → BreaksFrame profile s o
+      go : (y : Reading Frame) → frame profile s ≡ y → layout_of y ≡ broken_at o → BreaksFrame profile s o
       go (whole x rest) e q = let z : ◌≡◌ {A = ℕ} 0 1 = cc in absurd (omega arith)
-      go (broken m) e q = let u : m ≡ o = cc in frame-to profile s o (e ∙ ap broken u)
+      go (broken m) e q = frame-to profile s o (e ∙ ap broken (same-place q))
 
-  pub layout-whole : (frame_layout profile s ≡ layout.Whole) ↔ ((x : Frame) × IsFrame profile s x)
+  pub layout-whole : (frame_layout profile s ≡ Ok tt) ↔ ((x : Frame) × IsFrame profile s x)
   unfolding frame_layout
   layout-whole = (λ q. go (frame profile s) refl q, λ i. ap layout_of (frame-read profile s i.0 i.1))
     where
-      go : (y : Reading Frame) → frame profile s ≡ y → layout_of y ≡ layout.Whole → (x : Frame) × IsFrame profile s x
+      go : (y : Reading Frame) → frame profile s ≡ y → layout_of y ≡ Ok tt → (x : Frame) × IsFrame profile s x
       go (whole x rest) e q = (x, read-frame profile s x rest e)
       go (broken m) e q = let z : ◌≡◌ {A = ℕ} 0 1 = cc in absurd (omega arith)
 

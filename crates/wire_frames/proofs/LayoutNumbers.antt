@@ -1,5 +1,7 @@
--- The answer `Layout` by document 01's number and offset: 0 where the octets are a frame's, else 1 with the offset at which the reading
+-- The answer on a layout by document 01's number and offset: 0 where the octets are a frame's, else 1 with the offset at which the reading
 -- broke.
+use Rattle.wire_attributes.specs.declared.Broken.{Broken}
+use Rattle.std.specs.Prelude.{Result, Ok, Err}
 use mathlib.Core.Path.{◌≡◌, refl, ap, sym, ◌∙◌}
 use mathlib.Core.Logic.{◌↔◌}
 use mathlib.Core.List.{List, [], ◌∷◌}
@@ -9,9 +11,7 @@ use native.Mathlib.Omega.{arith}
 use lib.ListN.{length}
 use Rattle.octets.specs.Numbers.{oct}
 use Rattle.octets.specs.Walk.{Reading, whole, broken}
-use Rattle.wire_attributes.specs.Answers.{layout_of, layout_number, layout_offset}
-use Rattle.wire_attributes.specs.declared.Layout.{Layout}
-use Rattle.wire_attributes.specs.declared.Layout.TheVariants as layout
+use Rattle.wire_attributes.specs.Answers.{broken_at, layout_of, layout_number, layout_offset}
 use Rattle.wire_frames.specs.Frame.{Frame, frame, frame_layout}
 use Rattle.wire_frames.specs.Grammar.{IsFrame}
 use Rattle.wire_frames.specs.Laid.{Laid}
@@ -36,12 +36,12 @@ number-1 profile s o e =
     (ap (λ (y : Reading Frame). layout_number (layout_of y)) e, ap (λ (y : Reading Frame). layout_offset (layout_of y)) e)
 
 -- an answer carries the one offset o exactly where it says "broken at o"
-carries : (r : Layout) (o : ℕ) → layout_offset r ≡ o ∷ [] → r ≡ layout.Broken o
-carries layout.Whole o q = let z : ◌≡◌ {A = ℕ} 0 1 = ap length q in absurd (omega (arith, z))
-carries (layout.Broken m) o q = let u : m ≡ o = ap (λ (l : List ℕ). oct l 0) q in ap layout.Broken u
+carries : (r : Result (Unit {0}) Broken) (o : ℕ) → layout_offset r ≡ o ∷ [] → r ≡ broken_at o
+carries (Ok u) o q = let z : ◌≡◌ {A = ℕ} 0 1 = ap length q in absurd (omega (arith, z))
+carries (Err e) o q = let u : e.at ≡ o = ap (λ (l : List ℕ). oct l 0) q in ap broken_at u
 
 -- what `layout_with_profile` promises, of any answer that is the definition's
-pub laid : (profile : Bool) (s : List ℕ) (r : Layout) → r ≡ frame_layout profile s → Laid profile s r
+pub laid : (profile : Bool) (s : List ℕ) (r : Result (Unit {0}) Broken) → r ≡ frame_layout profile s → Laid profile s r
 laid profile s r e = record {
   layout = e;
   number = (λ q. (number-0 profile s).0 (sym (ap layout_number e) ∙ q), λ i. ap layout_number e ∙ (number-0 profile s).1 i);

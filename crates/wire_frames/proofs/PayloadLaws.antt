@@ -1,4 +1,6 @@
 -- What the readers' answers say of a payload, of the chain of payloads and of a frame.
+use Rattle.wire_attributes.specs.declared.Broken.{Broken}
+use Rattle.std.specs.Prelude.{Result, Ok}
 use Prim.Native.Nat.{ℕ, ◌+◌, ◌<◌, ◌≤◌}
 use mathlib.Core.Path.{◌≡◌, refl, ap, sym, ◌∙◌}
 use mathlib.Core.List.{List, [], ◌∷◌}
@@ -15,10 +17,7 @@ use Rattle.octets.proofs.Numerals.{sized-is}
 use Rattle.octets.proofs.Walks.{tail, to_end, by-test, Takes, took, takes-mapped, takes-closed, begun-none, begun-some, takes-begun, stops}
 use Rattle.octets.proofs.Walks.{opened-is, opened-not, takes-opened, outline, breaks}
 use Rattle.octets.proofs.Walks.{chain-stops, chain-goes, chain-breaks}
-use Rattle.wire_attributes.specs.Answers.{layout_of, spot_of}
-use Rattle.wire_attributes.specs.declared.Layout.{Layout}
-use Rattle.wire_attributes.specs.declared.Layout.TheVariants as layout
-use Rattle.wire_attributes.specs.declared.Spot.TheVariants as spot
+use Rattle.wire_attributes.specs.Answers.{broken_at, layout_of, spot_of}
 use Rattle.wire_attributes.proofs.Loops.{held_whole, held-broken, spot-mapped, layout-mapped, next-is, next-broken}
 use Rattle.wire_policies.specs.Policy.{policies}
 use Rattle.wire_bags.specs.Bag.{bags}
@@ -31,31 +30,27 @@ use Rattle.wire_frames.specs.Frame.{payload, none_next, payloads, nothing_left, 
 module _ (fresh : Bool) where
   -- THE BODY of a payload of the kind k
   module _ (k h b : ℕ) (s : List ℕ) where
-    pub gsa-body : k ≡ 51 → (y : Layout) → y ≡ layout_of (policies b s) → y ≡ layout_of (body fresh k h b s)
+    pub gsa-body : k ≡ 51 → (y : Result (Unit {0}) Broken) → y ≡ layout_of (policies b s) → y ≡ layout_of (body fresh k h b s)
     unfolding body
     gsa-body e y q = q ∙ layout-mapped gsa (policies b s) ∙ rw (eq-eqb k 51 e)
 
     module _ (n₁ : k ≡ 51 → ⊥) where
-      pub kd-body : k ≡ 52 → (y : Layout) → y ≡ layout_of (bags fresh b s) → y ≡ layout_of (body fresh k h b s)
+      pub kd-body : k ≡ 52 → (y : Result (Unit {0}) Broken) → y ≡ layout_of (bags fresh b s) → y ≡ layout_of (body fresh k h b s)
       unfolding body
       kd-body e y q = q ∙ layout-mapped kd (bags fresh b s) ∙ rw (ne_eqb k 51 n₁, eq-eqb k 52 e)
 
       module _ (n₂ : k ≡ 52 → ⊥) where
-        pub delete-good : k ≡ 42 → delete_fits s ≡ true → layout.Whole ≡ layout_of (body fresh k h b s)
+        pub delete-good : k ≡ 42 → delete_fits s ≡ true → Ok tt ≡ layout_of (body fresh k h b s)
         unfolding body
         delete-good e f = rw (ne_eqb k 51 n₁, ne_eqb k 52 n₂, eq-eqb k 42 e, f)
 
-        pub delete-bad : k ≡ 42 → delete_fits s ≡ false → layout.Broken h ≡ layout_of (body fresh k h b s)
+        pub delete-bad : k ≡ 42 → delete_fits s ≡ false → broken_at h ≡ layout_of (body fresh k h b s)
         unfolding body
         delete-bad e f = rw (ne_eqb k 51 n₁, ne_eqb k 52 n₂, eq-eqb k 42 e, f)
 
-        pub unread-body : (k ≡ 42 → ⊥) → layout.Whole ≡ layout_of (body fresh k h b s)
-        unfolding body
-        unread-body n₃ = rw (ne_eqb k 51 n₁, ne_eqb k 52 n₂, ne_eqb k 42 n₃)
-
   -- ONE PAYLOAD
   module _ (k b : ℕ) (s : List ℕ) where
-    pub missing : length s ≡ 0 → spot.Broken 0 ≡ spot_of s (payload fresh k b s)
+    pub missing : length s ≡ 0 → broken_at 0 ≡ spot_of s (payload fresh k b s)
     unfolding payload
     missing e = sym (ap (spot_of s) (begun-none 0 s _ e))
 
@@ -67,7 +62,7 @@ module _ (fresh : Bool) where
       unfolding payload held
       is = begun-some 0 s _ some
 
-      pub bad : payload_fits s ≡ false → spot.Broken b ≡ spot_of s (payload fresh k b s)
+      pub bad : payload_fits s ≡ false → broken_at b ≡ spot_of s (payload fresh k b s)
       bad e = sym (ap (spot_of s) (is ∙ opened-not b (payload_fits s) held e))
 
       module _ (n : ℕ) (fit : payload_fits s ≡ true) (g : n ≡ be16 s 2) where
@@ -77,16 +72,16 @@ module _ (fresh : Bool) where
             spot-mapped (payload_of k s) s (within 4 (be16 s 2) (body fresh k b) b s)
             ∙ sym (ap (spot_of s) (is ∙ opened-is b (payload_fits s) held fit))
 
-        inner : (y : Layout) → y ≡ layout_of (body fresh k b (b + 4) (part s 4 n))
+        inner : (y : Result (Unit {0}) Broken) → y ≡ layout_of (body fresh k b (b + 4) (part s 4 n))
             → y ≡ layout_of (body fresh k b (b + 4) (part s 4 (be16 s 2)))
         inner y q = q ∙ ap (λ (u : ℕ). layout_of (body fresh k b (b + 4) (part s 4 u))) g
 
-        pub good : layout.Whole ≡ layout_of (body fresh k b (b + 4) (part s 4 n)) → spot.Ends n ≡ spot_of s (payload fresh k b s)
-        good q = ap spot.Ends g ∙ held_whole (body fresh k b) b s 4 (be16 s 2) (sized-is s 4 fit).1 (inner layout.Whole q) ∙ out
+        pub good : Ok tt ≡ layout_of (body fresh k b (b + 4) (part s 4 n)) → Ok n ≡ spot_of s (payload fresh k b s)
+        good q = ap Ok g ∙ held_whole (body fresh k b) b s 4 (be16 s 2) (sized-is s 4 fit).1 (inner (Ok tt) q) ∙ out
 
-        pub inner-broken : (o : ℕ) → layout.Broken o ≡ layout_of (body fresh k b (b + 4) (part s 4 n))
-            → spot.Broken o ≡ spot_of s (payload fresh k b s)
-        inner-broken o q = held-broken (body fresh k b) b s 4 (be16 s 2) o (inner (layout.Broken o) q) ∙ out
+        pub inner-broken : (o : ℕ) → broken_at o ≡ layout_of (body fresh k b (b + 4) (part s 4 n))
+            → broken_at o ≡ spot_of s (payload fresh k b s)
+        inner-broken o q = held-broken (body fresh k b) b s 4 (be16 s 2) o (inner (broken_at o) q) ∙ out
 
   pub takes : (k b : ℕ) (s : List ℕ) → Takes s (payload fresh k b s)
   unfolding payload
@@ -116,32 +111,29 @@ module _ (fresh : Bool) where
       go (broken o) q = let z : ◌≡◌ {A = ℕ} 0 1 = cc in absurd (omega arith)
 
   -- THE CHAIN
-  pub starts : (k b : ℕ) (s : List ℕ) → outline (payloads fresh k b s) ≡ outline (payloads fresh k (b + 0) (drop 0 s))
-  starts k b s = ap (λ (c : ℕ). outline (payloads fresh k c s)) (sym (add-zero b))
-
-  exact-whole : {A : Type 0} (x : Reading A) (r : List ℕ) → outline x ≡ stops r → length r ≡ 0 → layout.Whole ≡ layout_of (nothing_left x)
+  exact-whole : {A : Type 0} (x : Reading A) (r : List ℕ) → outline x ≡ stops r → length r ≡ 0 → Ok tt ≡ layout_of (nothing_left x)
   exact-whole (whole a []) r q e = refl
   exact-whole (whole a (y ∷ rest)) r q e = let u : y ∷ rest ≡ r = cc in absurd (omega (arith, ap length u))
   exact-whole (broken o) r q e = let z : ◌≡◌ {A = ℕ} 0 1 = cc in absurd (omega arith)
 
   exact-left : {A : Type 0} (x : Reading A) (r : List ℕ) → outline x ≡ stops r → (length r ≡ 0 → ⊥) →
-      layout.Broken 0 ≡ layout_of (nothing_left x)
+      broken_at 0 ≡ layout_of (nothing_left x)
   exact-left (whole a []) r q e = let u : [] ≡ r = cc in absurd (e (ap length (sym u)))
   exact-left (whole a (y ∷ rest)) r q e = refl
   exact-left (broken o) r q e = let z : ◌≡◌ {A = ℕ} 0 1 = cc in absurd (omega arith)
 
-  exact-breaks : {A : Type 0} (x : Reading A) (o : ℕ) → outline x ≡ breaks o → layout.Broken o ≡ layout_of (nothing_left x)
+  exact-breaks : {A : Type 0} (x : Reading A) (o : ℕ) → outline x ≡ breaks o → broken_at o ≡ layout_of (nothing_left x)
   exact-breaks (whole a []) o q = let z : ◌≡◌ {A = ℕ} 0 1 = cc in absurd (omega arith)
   exact-breaks (whole a (y ∷ rest)) o q = let z : ◌≡◌ {A = ℕ} 0 1 = cc in absurd (omega arith)
   exact-breaks (broken p) o q = cc
 
   module _ (first b : ℕ) (s : List ℕ) (k at : ℕ) (l : at ≤ length s)
       (old : outline (payloads fresh first b s) ≡ outline (payloads fresh k (b + at) (drop at s))) where
-    pub inside : (e : ℕ) → spot.Ends e ≡ spot_of (tail s at) (payload fresh k (b + at) (tail s at)) → (0 < e) × (at + e ≤ length s)
+    pub inside : (e : ℕ) → Ok e ≡ spot_of (tail s at) (payload fresh k (b + at) (tail s at)) → (0 < e) × (at + e ≤ length s)
     inside e q = let n = next-is (payload fresh k) (takes k) b s at l e q in (n.some, n.inside)
 
     module _ (z : k ≡ 0 → ⊥) where
-      pub goes : (e m : ℕ) → spot.Ends e ≡ spot_of (tail s at) (payload fresh k (b + at) (tail s at)) → m ≡ oct s at
+      pub goes : (e m : ℕ) → Ok e ≡ spot_of (tail s at) (payload fresh k (b + at) (tail s at)) → m ≡ oct s at
           → outline (payloads fresh first b s) ≡ outline (payloads fresh m (b + (at + e)) (drop (at + e) s))
       goes e m q f =
           let n = next-is (payload fresh k) (takes k) b s at l e q in
@@ -153,8 +145,8 @@ module _ (fresh : Bool) where
           at_first : (s : List ℕ) (at : ℕ) → oct (drop at s) 0 ≡ oct s at
           at_first s at = simp (get_or-drop, add-zero)
 
-      pub tears : (o : ℕ) → spot.Broken o ≡ spot_of (tail s at) (payload fresh k (b + at) (tail s at))
-          → layout.Broken o ≡ layout_of (nothing_left (payloads fresh first b s))
+      pub tears : (o : ℕ) → broken_at o ≡ spot_of (tail s at) (payload fresh k (b + at) (tail s at))
+          → broken_at o ≡ layout_of (nothing_left (payloads fresh first b s))
       tears o q =
           exact-breaks (payloads fresh first b s) o
           (chain-breaks none_next (payload fresh) takes b s (outline (payloads fresh first b s)) at k old (ne_eqb k 0 z) o
@@ -164,10 +156,10 @@ module _ (fresh : Bool) where
       stopped : outline (payloads fresh first b s) ≡ stops (drop at s)
       stopped = chain-stops none_next (payload fresh) takes b s (outline (payloads fresh first b s)) at k old (eq-eqb k 0 z)
 
-      pub ends : at ≡ length s → layout.Whole ≡ layout_of (nothing_left (payloads fresh first b s))
+      pub ends : at ≡ length s → Ok tt ≡ layout_of (nothing_left (payloads fresh first b s))
       ends e = exact-whole (payloads fresh first b s) (drop at s) stopped (rw length-drop (omega arith))
 
-      pub left_over : (at ≡ length s → ⊥) → layout.Broken 0 ≡ layout_of (nothing_left (payloads fresh first b s))
+      pub left_over : (at ≡ length s → ⊥) → broken_at 0 ≡ layout_of (nothing_left (payloads fresh first b s))
       left_over e = exact-left (payloads fresh first b s) (drop at s) stopped (rw length-drop (λ u. e (omega arith)))
 
 -- THE FRAME
@@ -175,12 +167,12 @@ module _ (profile : Bool) (s : List ℕ) where
   abbrev read : Reading Frame
   read = mapped (frame_of s) (frame_payloads profile s)
 
-  pub frame-broken : header_fits s ≡ false → layout.Broken 0 ≡ frame_layout profile s
+  pub frame-broken : header_fits s ≡ false → broken_at 0 ≡ frame_layout profile s
   unfolding frame_layout frame
   frame-broken e = sym (ap layout_of (opened-not 0 (header_fits s) read e))
 
   pub frame_is : header_fits s ≡ true → (fresh : Bool) → fresh ≡ reads_fresh profile (oct s 18) → (p : ℕ) → p ≡ first_payload s
-      → (y : Layout) → y ≡ layout_of (nothing_left (payloads fresh p 28 (tail s 28)))
+      → (y : Result (Unit {0}) Broken) → y ≡ layout_of (nothing_left (payloads fresh p 28 (tail s 28)))
       → y ≡ frame_layout profile s
   unfolding frame_layout frame
   frame_is e fresh fq p pq y q =

@@ -1,12 +1,13 @@
 -- Samples computed on the definitions: frames by their octets, and where a broken layout breaks.
+use Rattle.wire_attributes.specs.declared.Broken.{Broken}
+use Rattle.std.specs.Prelude.{Result, Ok}
+use Rattle.wire_attributes.specs.Answers.{broken_at}
 use Prim.Native.Nat.{ℕ}
 use mathlib.Core.Path.{◌≡◌, refl}
 use mathlib.Core.List.{List, [], ◌∷◌, ◌++◌, map}
 use mathlib.Core.Bool.{true, false}
 use Rattle.octets.specs.Numbers.{number}
 use Rattle.octets.specs.Walk.{whole, chain, chain_up_to, many}
-use Rattle.wire_attributes.specs.declared.Layout.{Layout}
-use Rattle.wire_attributes.specs.declared.Layout.TheVariants as layout
 use Rattle.wire_attributes.specs.Tree.{values_of}
 use Rattle.wire_attributes.specs.Layout.{attribute}
 use Rattle.wire_policies.specs.Selector.{selector}
@@ -39,51 +40,51 @@ framed k n l = header k 32 n ++ l
 
 pub record Sample : Type 0 where
   pub octets : List ℕ
-  pub layout : Layout
+  pub layout : Result (Unit {0}) Broken
 
-abbrev is : List ℕ → Layout → Sample
+abbrev is : List ℕ → Result (Unit {0}) Broken → Sample
 is o l = record { octets = o; layout = l }
 
 abbrev samples : List Sample
 samples =
     -- a bare header is whole; a payload of which no octet is there, and octets left over, count for the header
-    is (framed 0 28 []) layout.Whole ∷
-    is (framed 41 28 []) (layout.Broken 0) ∷
-    is (framed 0 29 (0 ∷ [])) (layout.Broken 0) ∷
-    is (framed 41 33 (0 ∷ 0 ∷ 0 ∷ 4 ∷ 0 ∷ [])) (layout.Broken 0) ∷
-    is (framed 41 31 (0 ∷ 0 ∷ 0 ∷ [])) (layout.Broken 28) ∷
+    is (framed 0 28 []) (Ok tt) ∷
+    is (framed 41 28 []) (broken_at 0) ∷
+    is (framed 0 29 (0 ∷ [])) (broken_at 0) ∷
+    is (framed 41 33 (0 ∷ 0 ∷ 0 ∷ 4 ∷ 0 ∷ [])) (broken_at 0) ∷
+    is (framed 41 31 (0 ∷ 0 ∷ 0 ∷ [])) (broken_at 28) ∷
     -- the header: its length, the major version; the minor version is free
-    is [] (layout.Broken 0) ∷
-    is (framed 0 27 []) (layout.Broken 0) ∷
-    is (framed 0 29 []) (layout.Broken 0) ∷
-    is (header 0 16 28) (layout.Broken 0) ∷
-    is (header 0 31 28) (layout.Broken 0) ∷
-    is (header 0 47 28) layout.Whole ∷
-    is (header 0 48 28) (layout.Broken 0) ∷
+    is [] (broken_at 0) ∷
+    is (framed 0 27 []) (broken_at 0) ∷
+    is (framed 0 29 []) (broken_at 0) ∷
+    is (header 0 16 28) (broken_at 0) ∷
+    is (header 0 31 28) (broken_at 0) ∷
+    is (header 0 47 28) (Ok tt) ∷
+    is (header 0 48 28) (broken_at 0) ∷
     -- a payload's length counts its header: under 4, 4, past the frame; in one that is not read, too
-    is (framed 41 32 (0 ∷ 0 ∷ 0 ∷ 3 ∷ [])) (layout.Broken 28) ∷
-    is (framed 41 32 (0 ∷ 0 ∷ 0 ∷ 4 ∷ [])) layout.Whole ∷
-    is (framed 41 32 (0 ∷ 0 ∷ 0 ∷ 5 ∷ [])) (layout.Broken 28) ∷
-    is (framed 99 33 (0 ∷ 0 ∷ 0 ∷ 5 ∷ 9 ∷ [])) layout.Whole ∷
-    is (framed 46 36 (53 ∷ 0 ∷ 0 ∷ 4 ∷ 0 ∷ 0 ∷ 0 ∷ 4 ∷ [])) layout.Whole ∷
+    is (framed 41 32 (0 ∷ 0 ∷ 0 ∷ 3 ∷ [])) (broken_at 28) ∷
+    is (framed 41 32 (0 ∷ 0 ∷ 0 ∷ 4 ∷ [])) (Ok tt) ∷
+    is (framed 41 32 (0 ∷ 0 ∷ 0 ∷ 5 ∷ [])) (broken_at 28) ∷
+    is (framed 99 33 (0 ∷ 0 ∷ 0 ∷ 5 ∷ 9 ∷ [])) (Ok tt) ∷
+    is (framed 46 36 (53 ∷ 0 ∷ 0 ∷ 4 ∷ 0 ∷ 0 ∷ 0 ∷ 4 ∷ [])) (Ok tt) ∷
     -- empty GSA, empty KD, a group-wide policy and a Member bag of 4 octets
-    is (framed 51 36 (52 ∷ 0 ∷ 0 ∷ 4 ∷ 0 ∷ 0 ∷ 0 ∷ 4 ∷ [])) layout.Whole ∷
-    is (framed 51 44 (52 ∷ 0 ∷ 0 ∷ 8 ∷ 0 ∷ 0 ∷ 0 ∷ 4 ∷ 0 ∷ 0 ∷ 0 ∷ 8 ∷ 0 ∷ 0 ∷ 0 ∷ 4 ∷ [])) layout.Whole ∷
+    is (framed 51 36 (52 ∷ 0 ∷ 0 ∷ 4 ∷ 0 ∷ 0 ∷ 0 ∷ 4 ∷ [])) (Ok tt) ∷
+    is (framed 51 44 (52 ∷ 0 ∷ 0 ∷ 8 ∷ 0 ∷ 0 ∷ 0 ∷ 4 ∷ 0 ∷ 0 ∷ 0 ∷ 8 ∷ 0 ∷ 0 ∷ 0 ∷ 4 ∷ [])) (Ok tt) ∷
     -- Delete: 4 octets at least; SPIs that fill the body; of 4 octets for ESP, also where the count is 0
-    is (framed 42 40 (0 ∷ 0 ∷ 0 ∷ 12 ∷ 3 ∷ 4 ∷ 0 ∷ 1 ∷ 1 ∷ 2 ∷ 3 ∷ 4 ∷ [])) layout.Whole ∷
-    is (framed 42 35 (0 ∷ 0 ∷ 0 ∷ 7 ∷ 3 ∷ 4 ∷ 0 ∷ [])) (layout.Broken 28) ∷
-    is (framed 42 40 (0 ∷ 0 ∷ 0 ∷ 12 ∷ 3 ∷ 4 ∷ 0 ∷ 2 ∷ 1 ∷ 2 ∷ 3 ∷ 4 ∷ [])) (layout.Broken 28) ∷
-    is (framed 42 40 (0 ∷ 0 ∷ 0 ∷ 12 ∷ 3 ∷ 2 ∷ 0 ∷ 2 ∷ 1 ∷ 2 ∷ 3 ∷ 4 ∷ [])) (layout.Broken 28) ∷
-    is (framed 42 40 (0 ∷ 0 ∷ 0 ∷ 12 ∷ 2 ∷ 2 ∷ 0 ∷ 2 ∷ 1 ∷ 2 ∷ 3 ∷ 4 ∷ [])) layout.Whole ∷
-    is (framed 42 36 (0 ∷ 0 ∷ 0 ∷ 8 ∷ 3 ∷ 4 ∷ 0 ∷ 0 ∷ [])) layout.Whole ∷
-    is (framed 41 40 (42 ∷ 0 ∷ 0 ∷ 4 ∷ 0 ∷ 0 ∷ 0 ∷ 8 ∷ 3 ∷ 5 ∷ 0 ∷ 0 ∷ [])) (layout.Broken 32) ∷
+    is (framed 42 40 (0 ∷ 0 ∷ 0 ∷ 12 ∷ 3 ∷ 4 ∷ 0 ∷ 1 ∷ 1 ∷ 2 ∷ 3 ∷ 4 ∷ [])) (Ok tt) ∷
+    is (framed 42 35 (0 ∷ 0 ∷ 0 ∷ 7 ∷ 3 ∷ 4 ∷ 0 ∷ [])) (broken_at 28) ∷
+    is (framed 42 40 (0 ∷ 0 ∷ 0 ∷ 12 ∷ 3 ∷ 4 ∷ 0 ∷ 2 ∷ 1 ∷ 2 ∷ 3 ∷ 4 ∷ [])) (broken_at 28) ∷
+    is (framed 42 40 (0 ∷ 0 ∷ 0 ∷ 12 ∷ 3 ∷ 2 ∷ 0 ∷ 2 ∷ 1 ∷ 2 ∷ 3 ∷ 4 ∷ [])) (broken_at 28) ∷
+    is (framed 42 40 (0 ∷ 0 ∷ 0 ∷ 12 ∷ 2 ∷ 2 ∷ 0 ∷ 2 ∷ 1 ∷ 2 ∷ 3 ∷ 4 ∷ [])) (Ok tt) ∷
+    is (framed 42 36 (0 ∷ 0 ∷ 0 ∷ 8 ∷ 3 ∷ 4 ∷ 0 ∷ 0 ∷ [])) (Ok tt) ∷
+    is (framed 41 40 (42 ∷ 0 ∷ 0 ∷ 4 ∷ 0 ∷ 0 ∷ 0 ∷ 8 ∷ 3 ∷ 5 ∷ 0 ∷ 0 ∷ [])) (broken_at 32) ∷
     -- Delete of another protocol may have SPIs of no octets
-    is (framed 42 36 (0 ∷ 0 ∷ 0 ∷ 8 ∷ 1 ∷ 0 ∷ 0 ∷ 9 ∷ [])) layout.Whole ∷
-    is (framed 42 36 (0 ∷ 0 ∷ 0 ∷ 8 ∷ 6 ∷ 16 ∷ 0 ∷ 0 ∷ [])) layout.Whole ∷
+    is (framed 42 36 (0 ∷ 0 ∷ 0 ∷ 8 ∷ 1 ∷ 0 ∷ 0 ∷ 9 ∷ [])) (Ok tt) ∷
+    is (framed 42 36 (0 ∷ 0 ∷ 0 ∷ 8 ∷ 6 ∷ 16 ∷ 0 ∷ 0 ∷ [])) (Ok tt) ∷
     -- two breaks: the first is given, an inner one before a later payload, the header before all
-    is (framed 52 44 (51 ∷ 0 ∷ 0 ∷ 8 ∷ 1 ∷ 0 ∷ 0 ∷ 4 ∷ 0 ∷ 0 ∷ 0 ∷ 8 ∷ 1 ∷ 0 ∷ 0 ∷ 4 ∷ [])) (layout.Broken 32) ∷
-    is (framed 52 40 (41 ∷ 0 ∷ 0 ∷ 8 ∷ 0 ∷ 0 ∷ 0 ∷ 4 ∷ 0 ∷ 0 ∷ 0 ∷ 3 ∷ [])) (layout.Broken 36) ∷
-    is (header 52 16 36 ++ (41 ∷ 0 ∷ 0 ∷ 8 ∷ 1 ∷ 0 ∷ 0 ∷ 4 ∷ [])) (layout.Broken 0) ∷
+    is (framed 52 44 (51 ∷ 0 ∷ 0 ∷ 8 ∷ 1 ∷ 0 ∷ 0 ∷ 4 ∷ 0 ∷ 0 ∷ 0 ∷ 8 ∷ 1 ∷ 0 ∷ 0 ∷ 4 ∷ [])) (broken_at 32) ∷
+    is (framed 52 40 (41 ∷ 0 ∷ 0 ∷ 8 ∷ 0 ∷ 0 ∷ 0 ∷ 4 ∷ 0 ∷ 0 ∷ 0 ∷ 3 ∷ [])) (broken_at 36) ∷
+    is (header 52 16 36 ++ (41 ∷ 0 ∷ 0 ∷ 8 ∷ 1 ∷ 0 ∷ 0 ∷ 4 ∷ [])) (broken_at 0) ∷
     []
 
 samples-laid : map (λ (s : Sample). frame_layout false s.octets) samples ≡ map (λ (s : Sample). s.layout) samples

@@ -1,13 +1,12 @@
 -- A frame (document 01): "a plain 28-octet IKE header (RFC 7296 section 3.1), then the opened payloads", as a tree, or the offset of the
 -- structure whose layout broke first. `fresh` says whether fresh keys are read in the frame, `profile` whether the member that gets it has
 -- the profile for them (document 02, T-11).
-use Rattle.std.specs.Prelude.{ℕ, List, [], ◌∷◌, Bool, cond, ◌||◌, drop, eqb}
+use Rattle.std.specs.Prelude.{ℕ, List, [], ◌∷◌, Bool, cond, ◌||◌, drop, eqb, Result, Ok, Err}
 use Rattle.ikev2_numbers.specs.Codes.{header_octets, no_payload, payload_auth, payload_cert, payload_delete, payload_gsa, payload_header_octets}
 use Rattle.ikev2_numbers.specs.Codes.{payload_idr, payload_kd, payload_notify, structure_length_at}
 use Rattle.octets.specs.Numbers.{oct}
 use Rattle.octets.specs.Walk.{be16, Reading, whole, broken, Reader, mapped, opened, begun, within, Linked, chain}
-use Rattle.wire_attributes.specs.declared.Layout.{Layout}
-use Rattle.wire_attributes.specs.declared.Layout.TheVariants as layout
+use Rattle.wire_attributes.specs.declared.Broken.{Broken}
 use Rattle.wire_attributes.specs.Answers.{layout_of}
 use Rattle.wire_policies.specs.Policy.{Policy, policies}
 use Rattle.wire_bags.specs.Bag.{Bag, bags}
@@ -91,13 +90,13 @@ unfoldable pub frame : Bool → List ℕ → Reading Frame
 frame profile s = opened 0 (header_fits s) (mapped (frame_of s) (frame_payloads profile s))
 
 -- THE LAYOUT OF A FRAME: whole, or refusal 1 with the offset that it carries
-unfoldable pub frame_layout : Bool → List ℕ → Layout
+unfoldable pub frame_layout : Bool → List ℕ → Result (Unit {0}) Broken
 frame_layout profile s = layout_of (frame profile s)
 
 -- THE FIGURE (document 02, T-06): the offset at which the octets are broken, 0 where they are whole
-abbrev pub offset_of : Layout → ℕ
-offset_of layout.Whole = 0
-offset_of (layout.Broken o) = o
+abbrev pub offset_of : Result (Unit {0}) Broken → ℕ
+offset_of (Ok u) = 0
+offset_of (Err e) = e.at
 
 unfoldable pub figure : Bool → List ℕ → ℕ
 figure profile s = offset_of (frame_layout profile s)

@@ -62,27 +62,19 @@ pub struct Exchange {
 pub fn exchange_of(kind: usize) -> Exchange
     ensures { result ≡ exchange_of kind }
 {
-    if kind == GSA_AUTH {
-        return registration();
+    match kind {
+        GSA_AUTH | GSA_REGISTRATION => registration(),
+        GSA_REKEY => rekey(),
+        GSA_INBAND_REKEY => inband(),
+        _ => other(),
     }
-    if kind == GSA_REGISTRATION {
-        return registration();
-    }
-    if kind == GSA_REKEY {
-        return rekey();
-    }
-    if kind == GSA_INBAND_REKEY {
-        return inband();
-    }
-    other()
 }
 
 // Whether fresh keys are read in a frame of the exchange type `kind` that a member with this `profile` gets.
 pub fn reads_fresh(profile: bool, kind: usize) -> bool
     ensures { result ≡ reads_fresh profile kind }
 {
-    let row = exchange_of(kind);
-    profile & row.reads_fresh_keys
+    profile && exchange_of(kind).reads_fresh_keys
 }
 
 // Answers the row of GSA_AUTH and GSA_REGISTRATION.

@@ -1,4 +1,6 @@
 -- What the code's tests say of the transform that some octets start with, and how the loop over transforms goes on.
+use Rattle.wire_attributes.specs.declared.Broken.{Broken}
+use Rattle.std.specs.Prelude.{Result, Ok}
 use Prim.Native.Nat.{ℕ, ◌+◌, ◌<◌, ◌≤◌}
 use mathlib.Core.Path.{◌≡◌, refl, ap, sym, ◌∙◌}
 use mathlib.Core.List.{List}
@@ -21,32 +23,15 @@ use Rattle.wire_attributes.specs.Attribute.{Attribute}
 use Rattle.wire_attributes.specs.Place.{in_transform}
 use Rattle.wire_attributes.specs.Layout.{attributes}
 use Rattle.wire_attributes.specs.declared.tables.Place.{Place}
-use Rattle.wire_attributes.specs.Answers.{layout_of, spot_of}
-use Rattle.wire_attributes.specs.declared.Layout.{Layout}
-use Rattle.wire_attributes.specs.declared.Layout.TheVariants as layout
-use Rattle.wire_attributes.specs.declared.Spot.TheVariants as spot
+use Rattle.wire_attributes.specs.Answers.{broken_at, layout_of, spot_of}
 use Rattle.wire_attributes.proofs.Loops.{held_whole, held-broken, spot-mapped, spot-stops, spot-breaks, next-is, next-broken}
 use Rattle.wire_policies.specs.Transform.{Transform, is_mark, transform_fits, transform_of, transform, no_more, transforms}
 
 pub fits-is : (s : List ℕ) → transform_fits s ≡ true → (8 ≤ be16 s 2) × (be16 s 2 ≤ length s)
 fits-is s e = sized-is s 8 (and_parts (sized 8 s) (is_mark (oct s 0)) e).0
 
-module _ (s : List ℕ) (z : Bool) (f : z ≡ sized 8 s) where
-  pub not-sized : z ≡ false → false ≡ transform_fits s
-  not-sized e = rw (sym f ∙ e)
-
-  module _ (e : z ≡ true) (m : ℕ) (g : m ≡ oct s 0) where
-    sized-true : sized 8 s ≡ true
-    sized-true = sym f ∙ e
-
-    pub more : m ≡ 3 → true ≡ transform_fits s
-    more q = rw (sized-true, eq-eqb (oct s 0) 3 (sym g ∙ q))
-
-    pub last : (m ≡ 3 → ⊥) → eqb m 0 ≡ transform_fits s
-    last q = rw (sized-true, ne_eqb (oct s 0) 3 (λ u. q (g ∙ u))) (ap (λ (y : ℕ). eqb y 0) g)
-
 module _ (h b : ℕ) (s : List ℕ) where
-  pub missing : length s ≡ 0 → spot.Broken h ≡ spot_of s (transform h true b s)
+  pub missing : length s ≡ 0 → broken_at h ≡ spot_of s (transform h true b s)
   unfolding transform
   missing e = sym (ap (spot_of s) (begun-none h s _ e))
 
@@ -58,11 +43,11 @@ module _ (h b : ℕ) (s : List ℕ) where
     unfolding transform held
     is = begun-some h s _ some
 
-    pub bad : transform_fits s ≡ false → spot.Broken b ≡ spot_of s (transform h true b s)
+    pub bad : transform_fits s ≡ false → broken_at b ≡ spot_of s (transform h true b s)
     bad e = sym (ap (spot_of s) (is ∙ opened-not b (transform_fits s) held e))
 
     module _ (fit : transform_fits s ≡ true) (n : ℕ) (p : Place) (g : n ≡ be16 s 2) (k : p ≡ in_transform (oct s 4)) where
-      inner : (y : Layout) → y ≡ layout_of (attributes p (b + 8) (part s 8 n))
+      inner : (y : Result (Unit {0}) Broken) → y ≡ layout_of (attributes p (b + 8) (part s 8 n))
           → y ≡ layout_of (attributes (in_transform (oct s 4)) (b + 8) (part s 8 (be16 s 2)))
       inner y q =
           q ∙ ap (λ (u : Place). layout_of (attributes u (b + 8) (part s 8 n))) k
@@ -74,14 +59,14 @@ module _ (h b : ℕ) (s : List ℕ) where
           spot-mapped (transform_of s) s (within 8 (be16 s 2) (attributes (in_transform (oct s 4))) b s)
           ∙ sym (ap (spot_of s) (is ∙ opened-is b (transform_fits s) held fit))
 
-      pub good : layout.Whole ≡ layout_of (attributes p (b + 8) (part s 8 n)) → spot.Ends n ≡ spot_of s (transform h true b s)
+      pub good : Ok tt ≡ layout_of (attributes p (b + 8) (part s 8 n)) → Ok n ≡ spot_of s (transform h true b s)
       good q =
-          ap spot.Ends g
-          ∙ held_whole (attributes (in_transform (oct s 4))) b s 8 (be16 s 2) (fits-is s fit).1 (inner layout.Whole q) ∙ out
+          ap Ok g
+          ∙ held_whole (attributes (in_transform (oct s 4))) b s 8 (be16 s 2) (fits-is s fit).1 (inner (Ok tt) q) ∙ out
 
-      pub inner-broken : (o : ℕ) → layout.Broken o ≡ layout_of (attributes p (b + 8) (part s 8 n))
-          → spot.Broken o ≡ spot_of s (transform h true b s)
-      inner-broken o q = held-broken (attributes (in_transform (oct s 4))) b s 8 (be16 s 2) o (inner (layout.Broken o) q) ∙ out
+      pub inner-broken : (o : ℕ) → broken_at o ≡ layout_of (attributes p (b + 8) (part s 8 n))
+          → broken_at o ≡ spot_of s (transform h true b s)
+      inner-broken o q = held-broken (attributes (in_transform (oct s 4))) b s 8 (be16 s 2) o (inner (broken_at o) q) ∙ out
 
 pub takes : (h : ℕ) (more : Bool) (b : ℕ) (s : List ℕ) → Takes s (transform h more b s)
 unfolding transform
@@ -115,12 +100,9 @@ next_of h more b s x rest =
         ap (λ (y : Linked Bool Transform). y.next) (sym u)
     go (broken o) q = let z : ◌≡◌ {A = ℕ} 0 1 = cc in absurd (omega arith)
 
-pub starts : (h b : ℕ) (s : List ℕ) → outline (transforms h b s) ≡ outline (transforms h (b + 0) (drop 0 s))
-starts h b s = ap (λ (c : ℕ). outline (transforms h c s)) (sym (add-zero b))
-
 module _ (h b : ℕ) (s : List ℕ) (at : ℕ) (l : at ≤ length s)
     (old : outline (transforms h b s) ≡ outline (transforms h (b + at) (drop at s))) where
-  steps : (e m : ℕ) → spot.Ends e ≡ spot_of (tail s at) (transform h true (b + at) (tail s at)) → m ≡ oct s at
+  steps : (e m : ℕ) → Ok e ≡ spot_of (tail s at) (transform h true (b + at) (tail s at)) → m ≡ oct s at
       → outline (transforms h b s) ≡ outline (chain no_more (transform h) (eqb m 3) (b + (at + e)) (drop (at + e) s))
   steps e m q f =
       let n = next-is (transform h true) (takes h true) b s at l e q in
@@ -134,22 +116,22 @@ module _ (h b : ℕ) (s : List ℕ) (at : ℕ) (l : at ≤ length s)
       first : (s : List ℕ) (at : ℕ) → oct (drop at s) 0 ≡ oct s at
       first s at = simp (get_or-drop, add-zero)
 
-  pub inside : (e : ℕ) → spot.Ends e ≡ spot_of (tail s at) (transform h true (b + at) (tail s at)) → (0 < e) × (at + e ≤ length s)
+  pub inside : (e : ℕ) → Ok e ≡ spot_of (tail s at) (transform h true (b + at) (tail s at)) → (0 < e) × (at + e ≤ length s)
   inside e q = let n = next-is (transform h true) (takes h true) b s at l e q in (n.some, n.inside)
 
-  pub goes : (e m : ℕ) → spot.Ends e ≡ spot_of (tail s at) (transform h true (b + at) (tail s at)) → m ≡ oct s at → m ≡ 3
+  pub goes : (e m : ℕ) → Ok e ≡ spot_of (tail s at) (transform h true (b + at) (tail s at)) → m ≡ oct s at → m ≡ 3
       → outline (transforms h b s) ≡ outline (transforms h (b + (at + e)) (drop (at + e) s))
   goes e m q f g =
       steps e m q f ∙ ap (λ (y : Bool). outline (chain no_more (transform h) y (b + (at + e)) (drop (at + e) s))) (eq-eqb m 3 g)
 
-  pub ends : (e m : ℕ) → spot.Ends e ≡ spot_of (tail s at) (transform h true (b + at) (tail s at)) → m ≡ oct s at → (m ≡ 3 → ⊥)
-      → spot.Ends (at + e) ≡ spot_of s (transforms h b s)
+  pub ends : (e m : ℕ) → Ok e ≡ spot_of (tail s at) (transform h true (b + at) (tail s at)) → m ≡ oct s at → (m ≡ 3 → ⊥)
+      → Ok (at + e) ≡ spot_of s (transforms h b s)
   ends e m q f g =
       let o = steps e m q f ∙ ap (λ (y : Bool). outline (chain no_more (transform h) y (b + (at + e)) (drop (at + e) s))) (ne_eqb m 3 g) in
       spot-stops s (transforms h b s) (at + e) (inside e q).1
       (chain-stops no_more (transform h) (takes h) b s (outline (transforms h b s)) (at + e) false o refl)
 
-  pub tears : (o : ℕ) → spot.Broken o ≡ spot_of (tail s at) (transform h true (b + at) (tail s at)) → spot.Broken o ≡ spot_of s
+  pub tears : (o : ℕ) → broken_at o ≡ spot_of (tail s at) (transform h true (b + at) (tail s at)) → broken_at o ≡ spot_of s
       (transforms h b s)
   tears o q =
       spot-breaks s (transforms h b s) o

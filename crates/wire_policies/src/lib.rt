@@ -10,56 +10,43 @@ ghost use Rattle.wire_policies.specs.Policy.{suite, sa_body, spi_size, head_size
 use ikev2_numbers::{
     AH, DATA_SPI, ESP, GIKE_UPDATE, NO_PROTOCOL, POLICY_HEAD, REKEY_SPI, STRUCTURE_LENGTH_AT,
 };
+use wire_attributes::Broken;
 use wire_attributes::tables::Place;
-use wire_attributes::{Layout, Spot};
 
 pub mod selectors;
 pub mod transforms;
 
 // Checks that `s` is one or more transforms, then attributes of `place` to its end. `base` is the offset of `s`, `holder` that of the
 // policy.
-fn suite_layout(place: Place, s: &[u8], base: usize, holder: usize) -> Layout
+fn suite_layout(place: Place, s: &[u8], base: usize, holder: usize) -> Result<(), Broken>
     requires { base + length s.now < 4294967296 }
     ensures { result ≡ layout_of (suite holder place base s.now) }
 {
-    match transforms::transforms_spot(s, base, holder) {
-        Spot::Ends(e) => wire_attributes::are_attributes(place, &s[e..], base + e),
-        Spot::Broken(o) => Layout::Broken(o),
-    }
+    let e = transforms::transforms_spot(s, base, holder)?;
+    wire_attributes::are_attributes(place, &s[e..], base + e)
 }
 
 // Checks what a Group SA policy holds after its SPI: two selectors, one or more transforms, attributes of `place`. `base` is the offset of
 // `s`, `holder` that of the policy.
-fn body_layout(place: Place, s: &[u8], base: usize, holder: usize) -> Layout
+fn body_layout(place: Place, s: &[u8], base: usize, holder: usize) -> Result<(), Broken>
     requires { base + length s.now < 4294967296 }
     ensures { result ≡ layout_of (sa_body holder place base s.now) }
 {
-    match selectors::selector_spot(s, base, holder) {
-        Spot::Ends(a) => match selectors::selector_spot(&s[a..], base + a, holder) {
-            Spot::Ends(d) => {
-                let t = a + d;
-                suite_layout(place, &s[t..], base + t, holder)
-            }
-            Spot::Broken(o) => Layout::Broken(o),
-        },
-        Spot::Broken(o) => Layout::Broken(o),
-    }
+    let a = selectors::selector_spot(s, base, holder)?;
+    let d = selectors::selector_spot(&s[a..], base + a, holder)?;
+    let t = a + d;
+    suite_layout(place, &s[t..], base + t, holder)
 }
 
 // Answers how many octets an SPI of `protocol` has; 0 where `protocol` is not Rekey, ESP or AH.
 pub fn spi_size(protocol: usize) -> usize
     ensures { (result ≡ spi_size protocol) × (result < 17) }
 {
-    if protocol == GIKE_UPDATE {
-        return REKEY_SPI;
+    match protocol {
+        GIKE_UPDATE => REKEY_SPI,
+        ESP | AH => DATA_SPI,
+        _ => 0,
     }
-    if protocol == ESP {
-        return DATA_SPI;
-    }
-    if protocol == AH {
-        return DATA_SPI;
-    }
-    0
 }
 
 // Whether the head of a policy or key bag at the start of `s` fits. Its first octet must be known and, unless it is 0, have its protocol's
@@ -75,17 +62,11 @@ pub fn head_fits(s: &[u8]) -> bool
         return octets::numbers::is_sized(s, POLICY_HEAD);
     }
     let z = spi_size(p);
-    if z == 0 {
-        return false;
-    }
-    if octets::wide(s[1]) == z {
-        return octets::numbers::is_sized(s, POLICY_HEAD + z);
-    }
-    false
+    z != 0 && octets::wide(s[1]) == z && octets::numbers::is_sized(s, POLICY_HEAD + z)
 }
 
 // Checks what the policy at the start of `s` holds after its head, which must fit. `base` is the offset of `s`.
-fn policy_layout(s: &[u8], base: usize) -> Layout
+fn policy_layout(s: &[u8], base: usize) -> Result<(), Broken>
     requires { (head_fits s.now ≡ true) × (base + length s.now < 4294967296) }
     ensures { result ≡ layout_of (policy_holds base s.now (base + head_size s.now)
         (part s.now (head_size s.now) (be16 s.now 2))) }
@@ -105,36 +86,26 @@ fn policy_layout(s: &[u8], base: usize) -> Layout
 }
 
 // Reads the policy at the start of `s` and answers where it ends. `base` is the offset of `s`.
-pub fn policy_spot(s: &[u8], base: usize) -> Spot
+pub fn policy_spot(s: &[u8], base: usize) -> Result<usize, Broken>
     requires { base + length s.now < 4294967296 }
     ensures { result ≡ spot_of s.now (policy base s.now) }
 {
-    if head_fits(s) {
-        let n = octets::numbers::be16_at(s, STRUCTURE_LENGTH_AT);
-        match policy_layout(s, base) {
-            Layout::Whole => Spot::Ends(n),
-            Layout::Broken(o) => Spot::Broken(o),
-        }
-    } else {
-        Spot::Broken(base)
+    if !head_fits(s) {
+        return Err(Broken { at: base });
     }
+    policy_layout(s, base)?;
+    Ok(octets::numbers::be16_at(s, STRUCTURE_LENGTH_AT))
 }
 
 // Checks that `s` is policies, one after the other to its end. `base` is the offset of `s`.
-pub fn are_policies(s: &[u8], base: usize) -> Layout
+pub fn are_policies(s: &[u8], base: usize) -> Result<(), Broken>
     requires { base + length s.now < 4294967296 }
     ensures { result ≡ layout_of (policies base s.now) }
 {
+    // Kept as a loop of its own: over a closure it would need a contract on what is read and where it ends, longer than the loop.
     let mut at = 0;
     while at < s.len() {
-        match policy_spot(&s[at..], base + at) {
-            Spot::Ends(e) => {
-                at = at + e;
-            }
-            Spot::Broken(o) => {
-                return Layout::Broken(o);
-            }
-        }
+        at += policy_spot(&s[at..], base + at)?;
     }
-    Layout::Whole
+    Ok(())
 }

@@ -4,7 +4,6 @@ ghost use Rattle.wire_attributes.specs.Layout.{attributes};
 ghost use Rattle.wire_readers.specs.inner.Values.{is_whole, values_in, FindsValue, first_value, first_start, value_size};
 
 use crate::Stretch;
-use wire_attributes::Read;
 use wire_attributes::tables::{Meaning, Place};
 
 // Finds the first attribute of `s` from index `from` on that means `m` in `place`, and answers where it stands.
@@ -13,31 +12,17 @@ pub fn next_attribute(m: Meaning, place: Place, s: &[u8], from: usize) -> Option
     requires { (from ≤ length s.now) × (is_whole (attributes place 0 (drop from s.now)) ≡ true) }
     ensures { FindsValue m place s.now from result }
 {
-    let wanted = wire_attributes::tables::code(m);
     let mut at = from;
     while at < s.len() {
-        match wire_attributes::read_attribute(&s[at..]) {
-            Read::Attribute {
-                short: _,
-                kind,
-                start: _,
-                end,
-            } => {
-                let next = at + end;
-                if wire_attributes::tables::code(wire_attributes::tables::meaning_in(place, kind))
-                    == wanted
-                {
-                    return Some(Stretch {
-                        start: at,
-                        end: next,
-                    });
-                }
-                at = next;
-            }
-            Read::Cut => {
-                return None;
-            }
+        let a = wire_attributes::read_attribute(&s[at..])?;
+        let next = at + a.end;
+        if wire_attributes::tables::meaning_in(place, a.kind) == m {
+            return Some(Stretch {
+                start: at,
+                end: next,
+            });
         }
+        at = next;
     }
     None
 }

@@ -1,4 +1,5 @@
 -- Octets that are one policy to their end: which it is, its SPI and what it shows.
+use Rattle.std.specs.Prelude.{Ok}
 use Prim.Native.Nat.{ℕ, ◌+◌, ◌<◌, ◌≤◌}
 use mathlib.Core.Path.{◌≡◌, refl, ap, sym, ◌∙◌, subst}
 use mathlib.Core.List.{List, [], ◌∷◌, ◌++◌, map, append-nil}
@@ -15,9 +16,8 @@ use Rattle.wire_attributes.specs.Attribute.{Attribute}
 use Rattle.wire_attributes.specs.Place.{in_policy}
 use Rattle.wire_attributes.specs.Tree.{initial_message_ids, deactivation_delays, key_lifetimes}
 use Rattle.wire_attributes.specs.Layout.{attributes}
-use Rattle.wire_attributes.specs.Answers.{spot_of}
+use Rattle.wire_attributes.specs.Answers.{broken_at, spot_of}
 use Rattle.wire_attributes.specs.declared.tables.Place.TheVariants as place
-use Rattle.wire_attributes.specs.declared.Spot.TheVariants as spot
 use Rattle.wire_attributes.proofs.Loops.{ended, spot-broken}
 use Rattle.wire_attributes.proofs.GrammarLaws.{are-read}
 use Rattle.wire_policies.specs.Selector.{selector_size}
@@ -61,10 +61,10 @@ module _ (s : List ℕ) where
   pub other-size : (n : ℕ) → n ≡ be16 s 2 → (n ≡ length s → ⊥) → kind.Nothing ≡ shown_kind s
   other-size n q h = none (λ x e. h (q ∙ (one_size s x (one s x e)).1))
 
-  pub breaks : (o : ℕ) → spot.Broken o ≡ spot_of s (policy 0 s) → kind.Nothing ≡ shown_kind s
+  pub breaks : (o : ℕ) → broken_at o ≡ spot_of s (policy 0 s) → kind.Nothing ≡ shown_kind s
   breaks o q = ap (on_all kind.Nothing kind_in) (sym (spot-broken s (policy 0 s) o q))
 
-  module _ (n e : ℕ) (nq : n ≡ be16 s 2) (size : n ≡ length s) (q : spot.Ends e ≡ spot_of s (policy 0 s)) where
+  module _ (n e : ℕ) (nq : n ≡ be16 s 2) (size : n ≡ length s) (q : Ok e ≡ spot_of s (policy 0 s)) where
     record Whole : Type 0 where
       item : Policy
       reads : policy 0 s ≡ whole item []

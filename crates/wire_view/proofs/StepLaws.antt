@@ -1,4 +1,5 @@
 -- What the readers of one selector, transform or attribute say of a step from a cursor.
+use Rattle.std.specs.Prelude.{Ok}
 use Prim.Native.Nat.{ℕ, ◌+◌, ◌-◌, ◌/◌, ◌%◌, ◌<◌, ◌≤◌}
 use mathlib.Core.Path.{◌≡◌, refl, ap, sym, ◌∙◌, subst}
 use mathlib.Core.List.{List, [], ◌++◌}
@@ -16,11 +17,10 @@ use Rattle.octets.proofs.Walks.{tail, Takes, to_end}
 use Rattle.octets.proofs.Inverse.{inverse-opened}
 use Rattle.wire_attributes.specs.Attribute.{Attribute, attribute_size, attribute_of, fits}
 use Rattle.wire_attributes.specs.Layout.{formed_in, fits_in, attribute}
-use Rattle.wire_attributes.specs.Answers.{spot_of}
+use Rattle.wire_attributes.specs.Answers.{broken_at, spot_of}
 use Rattle.wire_attributes.specs.Place.{in_policy}
 use Rattle.wire_attributes.specs.declared.tables.Place.{Place}
 use Rattle.wire_attributes.specs.declared.tables.Place.TheVariants as place
-use Rattle.wire_attributes.specs.declared.Spot.TheVariants as spot
 use Rattle.wire_attributes.proofs.Loops.{next-is, next-broken, spot-broken}
 use Rattle.wire_attributes.proofs.AttributeLaws.{size-least, cut_in}
 use Rattle.wire_attributes.proofs.AttributeLaws.{takes as attribute-takes}
@@ -70,12 +70,12 @@ module _ {A : Type 0} (p : Reader A) (takes : (b : ℕ) (s : List ℕ) → Takes
   from_zero : 0 + at ≡ at
   from_zero = omega arith
 
-  found : (e : ℕ) → spot.Ends e ≡ spot_of (tail s at) (p at (tail s at)) → Found p s at e
+  found : (e : ℕ) → Ok e ≡ spot_of (tail s at) (p at (tail s at)) → Found p s at e
   found e q =
       let n = next-is p takes 0 s at h e (q ∙ ap (λ (k : ℕ). spot_of (tail s at) (p k (tail s at))) (sym from_zero)) in
       record { item = n.item; is = ap (λ (k : ℕ). p k (drop at s)) (sym from_zero) ∙ n.is; some = n.some; inside = n.inside }
 
-  not_found : (o : ℕ) → spot.Broken o ≡ spot_of (tail s at) (p at (tail s at)) → p at (drop at s) ≡ broken o
+  not_found : (o : ℕ) → broken_at o ≡ spot_of (tail s at) (p at (tail s at)) → p at (drop at s) ≡ broken o
   not_found o q =
       ap (λ (k : ℕ). p k (drop at s)) (sym from_zero)
       ∙ next-broken p takes 0 s at h o (q ∙ ap (λ (k : ℕ). spot_of (tail s at) (p k (tail s at))) (sym from_zero))
@@ -97,12 +97,12 @@ module _ (s : List ℕ) (c at : ℕ) where
       (sym (past h))
 
   module _ (h : at ≤ length s) (comes : ℕ) where
-    pub no-selector : (o : ℕ) → spot.Broken o ≡ spot_of (tail s at) (selector 0 at (tail s at)) → stay_step c ≡ selector_step s c comes at
+    pub no-selector : (o : ℕ) → broken_at o ≡ spot_of (tail s at) (selector 0 at (tail s at)) → stay_step c ≡ selector_step s c comes at
     no-selector o q =
         off s c (shown_selector at) (λ (x : Selector). comes) (selector 0 at (drop at s)) o
         (not_found (selector 0) (selector-takes 0) s at h o q)
 
-    module _ (e : ℕ) (q : spot.Ends e ≡ spot_of (tail s at) (selector 0 at (tail s at))) where
+    module _ (e : ℕ) (q : Ok e ≡ spot_of (tail s at) (selector 0 at (tail s at))) where
       read : Found (selector 0) s at e
       read = found (selector 0) (selector-takes 0) s at h e q
 
@@ -136,12 +136,12 @@ module _ (s : List ℕ) (c at : ℕ) where
       ap (λ (l : List ℕ). stepped s c shows comes-next (transform 0 true at l)) (sym (past h))
 
   module _ (h : at ≤ length s) where
-    pub no-transform : (o : ℕ) → spot.Broken o ≡ spot_of (tail s at) (transform 0 true at (tail s at)) → stay_step c ≡ transform_step s c at
+    pub no-transform : (o : ℕ) → broken_at o ≡ spot_of (tail s at) (transform 0 true at (tail s at)) → stay_step c ≡ transform_step s c at
     no-transform o q =
         off s c shows comes-next (transform 0 true at (drop at s)) o
         (not_found (transform 0 true) (transform-takes 0 true) s at h o q)
 
-    module _ (e : ℕ) (q : spot.Ends e ≡ spot_of (tail s at) (transform 0 true at (tail s at))) where
+    module _ (e : ℕ) (q : Ok e ≡ spot_of (tail s at) (transform 0 true at (tail s at))) where
       read-transform : Found (transform 0 true) s at e
       read-transform = found (transform 0 true) (transform-takes 0 true) s at h e q
 
@@ -189,14 +189,14 @@ module _ (s : List ℕ) (c at : ℕ) where
     step_of : Place → Step
     step_of y = stepped s c (shown_attribute y at) (λ (a : Attribute). at_attribute) (attribute y at (drop at s))
 
-    pub no-attribute : (o : ℕ) → spot.Broken o ≡ spot_of (tail s at) (attribute p at (tail s at)) → stay_step c ≡ attribute_step s c at
+    pub no-attribute : (o : ℕ) → broken_at o ≡ spot_of (tail s at) (attribute p at (tail s at)) → stay_step c ≡ attribute_step s c at
     unfolding step_of
     no-attribute o q =
         off s c (shown_attribute p at) (λ (a : Attribute). at_attribute) (attribute p at (drop at s)) o
         (not_found (attribute p) (attribute-takes p) s at h o q)
         ∙ ap step_of pq
 
-    module _ (e : ℕ) (q : spot.Ends e ≡ spot_of (tail s at) (attribute p at (tail s at))) where
+    module _ (e : ℕ) (q : Ok e ≡ spot_of (tail s at) (attribute p at (tail s at))) where
       read-attribute : Found (attribute p) s at e
       read-attribute = found (attribute p) (attribute-takes p) s at h e q
 

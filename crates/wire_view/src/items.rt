@@ -13,7 +13,6 @@ ghost use Rattle.wire_view.specs.View.{shown_selector, shown_transform, shown_at
 use ikev2_numbers::{
     ADDRESSES_AT, END_PORT_AT, START_PORT_AT, TRANSFORM_HEAD, TRANSFORM_ID_AT, TRANSFORM_TYPE_AT,
 };
-use wire_attributes::Read;
 use wire_attributes::tables::{Meaning, Place};
 
 // A selector, a transform or an attribute of a policy. Offsets count from the policy's first octet.
@@ -95,18 +94,13 @@ pub fn attribute_item(place: Place, s: &[u8], base: usize) -> Item
     ensures { fits s.now ≡ true → result ≡ shown_attribute place base (attribute_of s.now) }
 {
     match wire_attributes::read_attribute(s) {
-        Read::Attribute {
-            short,
-            kind,
-            start,
-            end,
-        } => Item::Attribute {
-            meaning: wire_attributes::tables::meaning_in(place, kind),
-            short,
-            kind,
-            start: base + start,
-            end: base + end,
+        Some(a) => Item::Attribute {
+            meaning: wire_attributes::tables::meaning_in(place, a.kind),
+            short: a.short,
+            kind: a.kind,
+            start: base + a.start,
+            end: base + a.end,
         },
-        Read::Cut => Item::Nothing,
+        None => Item::Nothing,
     }
 }

@@ -7,7 +7,6 @@ ghost use Rattle.wire_view.specs.View.{step_at, item_at, next_after, is_at_end};
 
 use crate::items::Item;
 use ikev2_numbers::{MORE_TRANSFORMS, NO_PROTOCOL, POLICY_HEAD, STRUCTURE_LENGTH_AT};
-use wire_attributes::Spot;
 use wire_attributes::tables::Place;
 
 // A Group SA policy by its protocol (6 Rekey, 3 ESP, 2 AH), a group-wide policy, or no policy.
@@ -27,14 +26,14 @@ pub fn kind_of(s: &[u8]) -> Kind
     }
     if octets::numbers::be16_at(s, STRUCTURE_LENGTH_AT) == s.len() {
         match wire_policies::policy_spot(s, 0) {
-            Spot::Ends(_) => {
+            Ok(_) => {
                 let p = octets::wide(s[0]);
                 if p == NO_PROTOCOL {
                     return Kind::GroupWide;
                 }
                 return Kind::GroupSa(p);
             }
-            Spot::Broken(_) => {
+            Err(_) => {
                 return Kind::Nothing;
             }
         }
@@ -101,7 +100,7 @@ fn selector_step(s: &[u8], c: usize, comes: usize, at: usize) -> Step
         return stay(c);
     }
     match wire_policies::selectors::selector_spot(&s[at..], at, 0) {
-        Spot::Ends(e) => {
+        Ok(e) => {
             let end = at + e;
             let item = crate::items::selector_item(&s[at..end], at);
             Step {
@@ -109,7 +108,7 @@ fn selector_step(s: &[u8], c: usize, comes: usize, at: usize) -> Step
                 next: cursor_at(end, comes),
             }
         }
-        Spot::Broken(_) => stay(c),
+        Err(_) => stay(c),
     }
 }
 
@@ -122,7 +121,7 @@ fn transform_step(s: &[u8], c: usize, at: usize) -> Step
         return stay(c);
     }
     match wire_policies::transforms::transform_spot(&s[at..], at, 0) {
-        Spot::Ends(e) => {
+        Ok(e) => {
             let end = at + e;
             let item = crate::items::transform_item(&s[at..end]);
             if octets::wide(s[at]) == MORE_TRANSFORMS {
@@ -136,7 +135,7 @@ fn transform_step(s: &[u8], c: usize, at: usize) -> Step
                 next: cursor_at(end, ATTRIBUTE),
             }
         }
-        Spot::Broken(_) => stay(c),
+        Err(_) => stay(c),
     }
 }
 
@@ -162,7 +161,7 @@ fn attribute_step(s: &[u8], c: usize, at: usize) -> Step
     }
     let place = place_of(s);
     match wire_attributes::attribute_in(place, &s[at..], at) {
-        Spot::Ends(e) => {
+        Ok(e) => {
             let end = at + e;
             let item = crate::items::attribute_item(place, &s[at..], at);
             Step {
@@ -170,7 +169,7 @@ fn attribute_step(s: &[u8], c: usize, at: usize) -> Step
                 next: cursor_at(end, ATTRIBUTE),
             }
         }
-        Spot::Broken(_) => stay(c),
+        Err(_) => stay(c),
     }
 }
 

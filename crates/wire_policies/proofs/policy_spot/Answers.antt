@@ -1,31 +1,18 @@
-use native.Mathlib.Omega.{arith}
-use mathlib.Core.Path.{sym, ◌∙◌}
-use Rattle.wire_policies.proofs.HeadLaws.{head-is}
+use Rattle.std.proofs.Common.{sym, ◌∙◌}
+use Rattle.wire_attributes.proofs.Loops.{exit-is}
 use Rattle.wire_policies.proofs.PolicyLaws.{good, inner-broken, bad}
 use Rattle.wire_policies.proofs.policy_spot.Goals as goal
 
-pub be16_at-n-requires : goal.be16_at-n-requires
-be16_at-n-requires c =
-    let f = head-is c.args.s.now (sym c.head_fits.ensures ∙ c.if-head_fits.true) in
-    omega (arith, f.0, f.1)
+pub returns-then-not-head_fits : goal.returns-then-not-head_fits
+returns-then-not-head_fits c = bad c.args.base c.args.s.now (sym c.head_fits.ensures ∙ c.if-not-head_fits.true)
 
-pub policy_layout-requires : goal.policy_layout-requires
-policy_layout-requires c = (
-  (sym c.head_fits.ensures
-      ∙ c.if-head_fits.true),
-  c.requires,
-)
+pub returns-in_err-policy_layout : goal.returns-in_err-policy_layout
+returns-in_err-policy_layout c =
+    let a = c.args in
+    exit-is _ _ c.from_residual.ensures.1
+    ∙ inner-broken a.base a.s.now (sym c.head_fits.ensures ∙ c.if-not-head_fits.false) _ c.in_err-policy_layout.ensures
 
-pub returns-in-Whole : goal.returns-in-Whole
-returns-in-Whole c = good c.args.base c.args.s.now (sym
-    c.head_fits.ensures ∙ c.if-head_fits.true) _
-    c.be16_at-n.ensures.0 (sym c.in-Whole.is ∙ c.policy_layout.ensures)
-
-pub returns-in-Broken : goal.returns-in-Broken
-returns-in-Broken c = inner-broken c.args.base c.args.s.now (sym
-    c.head_fits.ensures ∙ c.if-head_fits.true) _
-    (sym c.in-Broken.is ∙ c.policy_layout.ensures)
-
-pub returns-else-head_fits : goal.returns-else-head_fits
-returns-else-head_fits c = bad c.args.base c.args.s.now (sym c.head_fits.ensures
-    ∙ c.if-head_fits.false)
+pub returns : goal.returns
+returns c =
+    let a = c.args in
+    good a.base a.s.now (sym c.head_fits.ensures ∙ c.if-not-head_fits.false) _ c.be16_at.ensures.0 c.in_ok-policy_layout.ensures

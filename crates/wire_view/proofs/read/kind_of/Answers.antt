@@ -9,21 +9,21 @@ pub returns-then-p-eq-NO_PROTOCOL : goal.returns-then-p-eq-NO_PROTOCOL
 returns-then-p-eq-NO_PROTOCOL c =
     let m = c.be16_at in
     told _ _
-    (wide c.args.s.now m.result c.in-Ends.field-0 m.ensures.0 c.if-be16_at-s.true
-    (sym c.in-Ends.is ∙ c.policy_spot.ensures) c.wide-p.result c.wide-p.ensures.0 c.if-p-eq-NO_PROTOCOL.true)
+    (wide c.args.s.now m.result c.in-Ok.field-0 m.ensures.0 c.if-be16_at-s.true
+    c.in-Ok.ensures c.wide-p.result c.wide-p.ensures.0 c.if-p-eq-NO_PROTOCOL.true)
 
-pub returns-in-Ends : goal.returns-in-Ends
-returns-in-Ends c =
+pub returns-in-Ok : goal.returns-in-Ok
+returns-in-Ok c =
     let m = c.be16_at in
     told _ _
-    (sa c.args.s.now m.result c.in-Ends.field-0 m.ensures.0 c.if-be16_at-s.true
-    (sym c.in-Ends.is ∙ c.policy_spot.ensures) c.wide-p.result c.wide-p.ensures.0 c.if-p-eq-NO_PROTOCOL.false)
+    (sa c.args.s.now m.result c.in-Ok.field-0 m.ensures.0 c.if-be16_at-s.true
+    c.in-Ok.ensures c.wide-p.result c.wide-p.ensures.0 c.if-p-eq-NO_PROTOCOL.false)
 
-pub returns-in-Broken : goal.returns-in-Broken
-returns-in-Broken c =
+pub returns-in-Err : goal.returns-in-Err
+returns-in-Err c =
     told _ _
-    (breaks c.args.s.now c.in-Broken.field-0
-    (sym c.in-Broken.is ∙ c.policy_spot.ensures))
+    (breaks c.args.s.now c.in-Err.field-0.at
+    c.in-Err.ensures)
 
 pub returns : goal.returns
 returns c =
