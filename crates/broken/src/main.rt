@@ -5,7 +5,6 @@
 
 mod apart;
 mod collections;
-mod same;
 mod values;
 
 use gikev2::Member;
@@ -34,7 +33,7 @@ fn frame() -> [u8; 40] {
 
 // Prints whether `m` and `next` are the same value.
 pub(crate) fn compared(rt: &impl Print, m: Member, next: Member) -> io::Result<()> {
-    if same::same_members(m, next) {
+    if m == next {
         print(rt, b"same")
     } else {
         print(rt, b"another")
@@ -56,7 +55,7 @@ fn received(rt: &impl Print, m: Member, f: &[u8]) -> io::Result<()> {
 fn left(rt: &impl Print, m: Member) -> io::Result<()> {
     let new = Member::new();
     let next = m.leave();
-    if same::same_members(next, new) {
+    if next == new {
         print(rt, b"new")
     } else {
         print(rt, b"another")
@@ -69,7 +68,7 @@ fn asked(rt: &impl Print, m: Member) -> io::Result<()> {
     let a0 = [160u8; 16];
     let e = m.sa(ESP, &one);
     let r = m.sa(REKEY, &a0);
-    if same::is_none(e) && same::is_none(r) {
+    if e.is_none() && r.is_none() {
         print(rt, b"none")
     } else {
         print(rt, b"found")

@@ -40,52 +40,26 @@ pub(crate) fn rekey(octet: u8, count: usize, encryption: usize, wrapping: usize)
 
 // Answers `s`, retiring from tick 0 on without delay: it is due at every tick.
 pub(crate) fn retiring(s: Sa) -> Sa {
-    let spi = s.spi;
-    let octets = s.octets;
     let condition = Condition::Retiring { start: 0, delay: 0 };
-    let lifetime = s.lifetime;
-    Sa {
-        protocol: s.protocol,
-        spi,
-        octets,
-        count: s.count,
-        encryption: s.encryption,
-        wrapping: s.wrapping,
-        condition,
-        lifetime,
-    }
+    Sa { condition, ..s }
 }
 
 // Answers `s` with a lifetime of `seconds` from tick 0 on.
 pub(crate) fn lasting(s: Sa, seconds: u32) -> Sa {
-    let spi = s.spi;
-    let octets = s.octets;
-    let condition = s.condition;
     let lifetime = Lifetime::Limited { start: 0, seconds };
-    Sa {
-        protocol: s.protocol,
-        spi,
-        octets,
-        count: s.count,
-        encryption: s.encryption,
-        wrapping: s.wrapping,
-        condition,
-        lifetime,
-    }
+    Sa { lifetime, ..s }
 }
 
 // Answers `s` with another last octet in the place for SPIs, which an ESP SPI does not use.
-pub(crate) fn changed_spi(s: Sa) -> Sa {
-    let mut t = s;
-    t.spi[15] = 0;
-    t
+pub(crate) fn changed_spi(mut s: Sa) -> Sa {
+    s.spi[15] = 0;
+    s
 }
 
 // Answers `s` with another last octet in the place for keying octets.
-pub(crate) fn changed_octet(s: Sa) -> Sa {
-    let mut t = s;
-    t.octets[67] = 0;
-    t
+pub(crate) fn changed_octet(mut s: Sa) -> Sa {
+    s.octets[67] = 0;
+    s
 }
 
 // Answers a table that starts with three SAs and has the count `count`.
@@ -109,11 +83,10 @@ pub(crate) fn sas(count: usize) -> Table {
 }
 
 // Answers `t` with another SA in the last place.
-pub(crate) fn changed_place(t: Table) -> Table {
+pub(crate) fn changed_place(mut t: Table) -> Table {
     let s = esp(1, 20);
-    let mut u = t;
-    u.sas[SAS - 1] = s;
-    u
+    t.sas[SAS - 1] = s;
+    t
 }
 
 // Answers a held key with `count` octets.
@@ -126,10 +99,9 @@ pub(crate) fn key(id: u32, count: usize) -> HeldKey {
 }
 
 // Answers `k` with another last octet in the place for a key.
-pub(crate) fn changed_key(k: HeldKey) -> HeldKey {
-    let mut key = k.key;
-    key.octets[31] = 0;
-    HeldKey { id: k.id, key }
+pub(crate) fn changed_key(mut k: HeldKey) -> HeldKey {
+    k.key.octets[31] = 0;
+    k
 }
 
 // Answers a held list that starts with two keys and has the count `count`.
@@ -147,11 +119,10 @@ pub(crate) fn held_keys(count: usize) -> Held {
 }
 
 // Answers `h` with another key in the last place.
-pub(crate) fn key_at_the_end(h: Held) -> Held {
+pub(crate) fn key_at_the_end(mut h: Held) -> Held {
     let k = key(9, 16);
-    let mut g = h;
-    g.keys[HELD_KEYS - 1] = k;
-    g
+    h.keys[HELD_KEYS - 1] = k;
+    h
 }
 
 // Answers a member of `table` and `held`, with the least Message ID 5.
@@ -167,14 +138,7 @@ pub(crate) fn member_of(table: Table, held: Held) -> Member {
 
 // Answers `m`, for which no Message ID is acceptable any more.
 pub(crate) fn without_id(m: Member) -> Member {
-    let s = m.state;
-    let table = s.table;
-    let held = s.held;
-    let state = State {
-        table,
-        held,
-        least: Least::NoneAnyMore,
-        profile: s.profile,
-    };
+    let least = Least::NoneAnyMore;
+    let state = State { least, ..m.state };
     Member { state }
 }

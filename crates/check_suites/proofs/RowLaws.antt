@@ -15,8 +15,7 @@ use Rattle.wire_attributes.specs.declared.tables.Meaning.TheVariants.{KeyLength}
 use Rattle.lists.specs.Lists.{all}
 use Rattle.state_keys.specs.Algorithms.{algorithms, is_row_of, needed_in, needed_by}
 use Rattle.state_keys.specs.declared.algorithms.AlgorithmRow.{AlgorithmRow}
-use Rattle.state_keys.specs.declared.algorithms.Needed.{Needed}
-use Rattle.state_keys.specs.declared.algorithms.Needed.TheVariants.{Octets, Nothing}
+use Rattle.std.specs.Prelude.{Option, Some, None}
 use Rattle.lists.proofs.Cases.{bool_cases, and_parts}
 use Rattle.wire_readers.specs.inner.Values.{values_in, ValueFoundAt}
 use Rattle.rules_refusals.specs.Fitness.{octets_needed, is_octets, sum}
@@ -24,36 +23,28 @@ use Rattle.check_suites.specs.inner.Octets.{key_length_needs}
 
 module _ (k i b : ℕ) where
   -- what holds of each row's answer and of none holds of the answer
-  of-rows : (P : Needed → Type 0) (t : AlgorithmRow → Bool) → P Nothing → ((r : AlgorithmRow) → t r ≡ true → P (Octets r.octets)) →
+  of-rows : (P : Option ℕ → Type 0) (t : AlgorithmRow → Bool) → P None → ((r : AlgorithmRow) → t r ≡ true → P (Some r.octets)) →
       (l : List AlgorithmRow)
       → all t l ≡ true → P (needed_in k i b l)
   unfolding needed_in all
   of-rows P t none some [] h = none
   of-rows P t none some (r ∷ l) h =
       let f = and_parts (t r) (all t l) h in
-      let Q : Bool → Type 0 = λ u. P (cond u (Octets r.octets) (needed_in k i b l)) in
+      let Q : Bool → Type 0 = λ u. P (cond u (Some r.octets) (needed_in k i b l)) in
       bool_cases (is_row_of k i b r) (λ e. subst Q (sym e) (some r f.0)) (λ e. subst Q (sym e) (of-rows P t none some l f.1))
 
   pub at_most : octets_needed (needed_by k i b) ≤ 36
   unfolding needed_by all
   at_most =
-      of-rows (λ (x : Needed). octets_needed x ≤ 36) (λ (r : AlgorithmRow). leb r.octets 36) (omega arith)
+      of-rows (λ (x : Option ℕ). octets_needed x ≤ 36) (λ (r : AlgorithmRow). leb r.octets 36) (omega arith)
       (λ r e. leb-true r.octets 36 e) algorithms refl
 
   -- a row needs some octets
   pub some-octets : is_octets (needed_by k i b) ≡ ltb 0 (octets_needed (needed_by k i b))
   unfolding needed_by all
   some-octets =
-      of-rows (λ (x : Needed). is_octets x ≡ ltb 0 (octets_needed x)) (λ (r : AlgorithmRow). ltb 0 r.octets) refl
+      of-rows (λ (x : Option ℕ). is_octets x ≡ ltb 0 (octets_needed x)) (λ (r : AlgorithmRow). ltb 0 r.octets) refl
       (λ r e. sym e) algorithms refl
-
-  pub needs-octets : (x : Needed) (n : ℕ) → x ≡ needed_by k i b → x ≡ Octets n → (n ≡ octets_needed (needed_by k i b)) × (n ≤ 36)
-  needs-octets x n e f =
-      let g : n ≡ octets_needed (needed_by k i b) = ap octets_needed (sym f ∙ e) in
-      (g, omega (arith, g, at_most))
-
-  pub needs-none : (x : Needed) → x ≡ needed_by k i b → x ≡ Nothing → (0 ≡ octets_needed (needed_by k i b)) × (0 ≤ 36)
-  needs-none x e f = (ap octets_needed (sym f ∙ e), omega arith)
 
 -- ONE KEY LENGTH AND THE OTHERS
 module _ (id : ℕ) (p : Place) (s : List ℕ) (from v e : ℕ) (x : ValueFoundAt KeyLength p s from v e) where

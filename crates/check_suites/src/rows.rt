@@ -9,7 +9,6 @@ ghost use Rattle.rules_refusals.specs.Fitness.{octets_needed, encryption_needs, 
 ghost use Rattle.check_suites.specs.inner.Octets.{key_length_needs, transform_in};
 
 use ikev2_numbers::{ENCR, KWA};
-use state_keys::algorithms::Needed;
 use wire_attributes::tables::{Meaning, Place};
 use wire_readers::values::next_attribute;
 
@@ -19,10 +18,7 @@ fn needed(kind: usize, id: usize, bits: usize) -> usize
     requires { (kind < 256) × (id < 65536) × (bits < 65536) }
     ensures { (result ≡ octets_needed (needed_by kind id bits)) × (result ≤ encryption_key_room) }
 {
-    match state_keys::algorithms::octets_needed(kind as u8, id as u16, bits as u16) {
-        Needed::Octets(n) => n,
-        Needed::Nothing => 0,
-    }
+    state_keys::algorithms::octets_needed(kind as u8, id as u16, bits as u16).unwrap_or(0)
 }
 
 // Sums the octets that encryption with ID `id` needs, over all Key Lengths among the attributes `a` in `place`.

@@ -14,7 +14,6 @@ use Rattle.state_keys.specs.Limits.{Limits, limits}
 use Rattle.state_sa.specs.Entry.{live_rekey, due}
 use Rattle.state_sa.specs.declared.entry.Sa.{Sa}
 use Rattle.state_table.specs.Table.{sas_of, none}
-use Rattle.state_table.specs.declared.SaFound.{SaFound}
 use Rattle.state.specs.State.{state_formed, new_state, swept_state, asked_sa}
 use Rattle.state.specs.declared.State.{State}
 use Rattle.rules_refusals.specs.Refusals.{refusal}
@@ -37,6 +36,7 @@ use Rattle.rules_outcome.proofs.Demands as ofDemands
 use Rattle.wire_frames.proofs.Ignored as ofIgnored
 use Rattle.rules_outcome.proofs.Ignored as ofRulesoutcomeIgnored
 use Rattle.wire_frames.proofs.FrameGrammar as ofFrameGrammar
+use Rattle.std.specs.Prelude.{Option}
 
 pub own-key-of-live : (limits : Limits) (s : State) (now : ℕ) (is-formed : state_formed limits s ≡ true) (b : Sa)
     (m : In b (sas_of s.table)) (live : live_rekey b ≡ true) (not-due : due now b ≡ false) (long : 68 ≤ length b.octets) →
@@ -58,7 +58,7 @@ left-new = ofKept.left-new
 pub swept-no : (limits : Limits) (s : State) (now : ℕ) → state_formed limits s ≡ false → s ≡ swept_state limits now s
 swept-no = ofLaws.swept-no
 
-pub asked-no : (limits : Limits) (s : State) (p : ℕ) (x : List ℕ) (r : SaFound) → state_formed limits s ≡ false → r ≡ none →
+pub asked-no : (limits : Limits) (s : State) (p : ℕ) (x : List ℕ) (r : Option Sa) → state_formed limits s ≡ false → r ≡ none →
     r ≡ asked_sa limits p x s
 asked-no = ofLaws.asked-no
 

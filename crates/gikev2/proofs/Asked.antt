@@ -22,6 +22,7 @@ use Rattle.rules_outcome.specs.NamedKey.{OpensUnder}
 use Rattle.rules_outcome.specs.LifetimeSays.{LifetimeAs}
 use Rattle.rules_outcome.proofs.Asked.{asked-after}
 use Rattle.gikev2.specs.declared.Member.{Member}
+use Rattle.std.specs.Prelude.{Option, Some}
 use Rattle.gikev2.specs.declared.SaAnswer.{SaAnswer}
 use Rattle.gikev2.specs.declared.call.Answer.TheVariants as answer
 use Rattle.gikev2.specs.Member.{answer_of, answered, sa_answer}
@@ -31,12 +32,13 @@ module _ (m : Member) (now : ℕ) (lent s : List ℕ) (f : Frame) (e : IsFrame m
     (r : Receives m now lent s answer.Accepted next) where
   -- the answer has the octets that every copy of the SA's key opens to, as many as its policy needs, live; of a Rekey SA the octet counts
   -- of its policy's two parts; its lifetime as its policy and the frame's tick give it
-  pub record Answered (p : GroupSaPolicy) (a : SaAnswer) : Type 0 where
+  pub record Answered (p : GroupSaPolicy) (reply : Option SaAnswer) : Type 0 where
+    pub a : SaAnswer
     pub keying : List ℕ
     pub opens : OpensUnder limits m.state now lent f p keying
     pub every : (y : List ℕ) → OpensUnder limits m.state now lent f p y → y ≡ keying
     pub size : length keying ≡ need_of p
-    pub found : a.found ≡ true
+    pub found : reply ≡ Some a
     pub octets : a.octets ≡ padded 68 keying
     pub count : a.count ≡ need_of p
     pub condition : a.condition ≡ Live
@@ -49,23 +51,20 @@ module _ (m : Member) (now : ℕ) (lent s : List ℕ) (f : Frame) (e : IsFrame m
   answered-after p i =
       let w = asked-after limits m.state now lent s f e next.state r.outcome p i in
       let a = w.sa in
-      let is : sa_answer p.protocol p.spi next ≡ answer_of a = ap answered w.found in
-      let rekey : p.protocol ≡ 6 → eqb a.protocol 6 ≡ true = λ q. eq-eqb a.protocol 6 (w.protocol ∙ q) in
+            let rekey : p.protocol ≡ 6 → eqb a.protocol 6 ≡ true = λ q. eq-eqb a.protocol 6 (w.protocol ∙ q) in
       let esp : p.protocol ≡ 3 → eqb a.protocol 6 ≡ false =
       λ q. let z = w.protocol in ne_eqb a.protocol 6 (λ h. omega arith) in
       record {
+        a = answer_of a;
         keying = w.keying;
         opens = w.opens;
         every = w.every;
         size = w.size;
-        found = ap (λ (x : SaAnswer). x.found) is;
-        octets = ap (λ (x : SaAnswer). x.octets) is ∙ ap (padded 68) w.has;
-        count = ap (λ (x : SaAnswer). x.count) is ∙ w.count;
-        condition = ap (λ (x : SaAnswer). x.condition) is ∙ w.live;
-        lifetime = subst (LifetimeAs now p) (ap (λ (x : SaAnswer). x.lifetime) (sym is)) w.lifetime;
-        of-rekey = λ q. (
-          ap (λ (x : SaAnswer). x.encryption) is ∙ rw (rekey q) (w.parts q).0,
-          ap (λ (x : SaAnswer). x.wrapping) is ∙ rw (rekey q) (w.parts q).1,
-        );
-        of-esp = λ q. (ap (λ (x : SaAnswer). x.encryption) is ∙ rw (esp q), ap (λ (x : SaAnswer). x.wrapping) is ∙ rw (esp q));
+        found = ap answered w.found;
+        octets = ap (padded 68) w.has;
+        count = w.count;
+        condition = w.live;
+        lifetime = w.lifetime;
+        of-rekey = λ q. (rw (rekey q) (w.parts q).0, rw (rekey q) (w.parts q).1);
+        of-esp = λ q. (rw (esp q), rw (esp q));
       }

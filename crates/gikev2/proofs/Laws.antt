@@ -12,9 +12,9 @@ use Rattle.state_keys.specs.Kinds.{padded}
 use Rattle.lists.proofs.Parts.{copied}
 use Rattle.state_sa.specs.Entry.{rekey_protocol}
 use Rattle.state_sa.specs.declared.entry.Sa.{Sa}
-use Rattle.state_table.specs.declared.SaFound.{SaFound}
 use Rattle.gikev2.specs.declared.SaAnswer.{SaAnswer}
 use Rattle.gikev2.specs.Member.{answer_of, no_answer, answered}
+use Rattle.std.specs.Prelude.{Option, is_some}
 
 -- the octets in use, of an array of m: as many as a count says, or all of them
 module _ (m n count : ℕ) where
@@ -41,7 +41,6 @@ module _ (s : Sa) (n : ℕ) (octets : List ℕ) (h : length s.octets ≡ 68) (u 
   -- the answer with these octets and part counts
   abbrev pub With : ℕ → ℕ → SaAnswer
   With a b = record {
-    found = true;
     octets = octets;
     count = s.count;
     encryption = a;
@@ -57,12 +56,3 @@ module _ (s : Sa) (n : ℕ) (octets : List ℕ) (h : length s.octets ≡ 68) (u 
   pub answer-other : (s.protocol ≡ rekey_protocol → ⊥) → With 0 0 ≡ answer_of s
   unfolding answer_of
   answer-other p = rw (ne_eqb s.protocol rekey_protocol p, answer-octets)
-
-module _ (f : SaFound) (r : SaAnswer) where
-  pub answered-yes : f.found ≡ true → r ≡ answer_of f.sa → r ≡ answered f
-  unfolding answered
-  answered-yes e g = rw e g
-
-  pub answered-no : f.found ≡ false → r ≡ no_answer → r ≡ answered f
-  unfolding answered
-  answered-no e g = rw e g

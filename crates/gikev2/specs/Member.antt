@@ -1,13 +1,11 @@
 -- The calls on a member. "Registering, rekeying, sweeping and leaving each take the member as it was and give back the next."
-use Rattle.std.specs.Prelude.{ℕ, Bool, true, false, cond, List, [], eqb, take}
+use Rattle.std.specs.Prelude.{ℕ, Bool, false, cond, List, eqb, take, Option, None}
+use Rattle.std.specs.Option.{option_map}
 use Rattle.state_keys.specs.Rooms.{sa_room}
 use Rattle.state_keys.specs.Limits.{limits}
 use Rattle.state_keys.specs.Kinds.{padded}
 use Rattle.state_sa.specs.Entry.{rekey_protocol}
 use Rattle.state_sa.specs.declared.entry.Sa.{Sa}
-use Rattle.state_sa.specs.declared.entry.Condition.TheVariants.{Live}
-use Rattle.state_sa.specs.declared.entry.Lifetime.TheVariants.{Unlimited}
-use Rattle.state_table.specs.declared.SaFound.{SaFound}
 use Rattle.state.specs.State.{new_state, left_state, swept_state, asked_sa}
 use Rattle.gikev2.specs.declared.Member.{Member}
 use Rattle.gikev2.specs.declared.SaAnswer.{SaAnswer}
@@ -35,7 +33,6 @@ left_member m = record { state = left_state limits m.state }
 unfoldable pub answer_of : Sa → SaAnswer
 answer_of s =
     record {
-      found = true;
       octets = padded sa_room (take s.count s.octets);
       count = s.count;
       encryption = cond (eqb s.protocol rekey_protocol) s.encryption 0;
@@ -45,21 +42,13 @@ answer_of s =
     }
 
 -- the answer if the member has no such SA
-abbrev pub no_answer : SaAnswer
-no_answer = record {
-  found = false;
-  octets = padded sa_room [];
-  count = 0;
-  encryption = 0;
-  wrapping = 0;
-  condition = Live;
-  lifetime = Unlimited;
-}
+abbrev pub no_answer : Option SaAnswer
+no_answer = None
 
 -- the answer by what was found
-unfoldable pub answered : SaFound → SaAnswer
-answered f = cond f.found (answer_of f.sa) no_answer
+unfoldable pub answered : Option Sa → Option SaAnswer
+answered f = option_map answer_of f
 
 -- the answer to the question about the SA with the protocol p and the SPI x
-unfoldable pub sa_answer : ℕ → List ℕ → Member → SaAnswer
+unfoldable pub sa_answer : ℕ → List ℕ → Member → Option SaAnswer
 sa_answer p x m = answered (asked_sa limits p x m.state)

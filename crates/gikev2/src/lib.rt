@@ -13,16 +13,15 @@ use state_keys::rooms::SA_OCTETS;
 use state_sa::entry::{Condition, Lifetime, REKEY, Sa};
 
 // A group member. It is a value: a call that changes the member takes it and gives back the next one.
-#[derive(Clone, Copy)]
+#[derive(Clone, Copy, PartialEq, Eq)]
 pub struct Member {
     pub state: State,
 }
 
-// The answer of `Member::sa`: whether the member has the SA and, if so, its keying octets, the octet counts of their two parts (of a Rekey
-// SA), its condition and its lifetime. All else is blank.
+// The answer of `Member::sa`, where the member has the SA: its keying octets, the octet counts of their two parts (of a Rekey SA), its
+// condition and its lifetime. All else is blank.
 #[derive(Clone, Copy)]
 pub struct SaAnswer {
-    pub found: bool,
     pub octets: [u8; SA_OCTETS],
     pub count: usize,
     pub encryption: usize,
@@ -52,7 +51,6 @@ fn answer(s: Sa) -> SaAnswer
     let condition = s.condition;
     let lifetime = s.lifetime;
     SaAnswer {
-        found: true,
         octets,
         count,
         encryption,
@@ -96,23 +94,11 @@ impl Member {
     }
 
     // Answers the keying octets, condition and lifetime of the SA with this `protocol` and `spi`, or that the member has none.
-    pub fn sa(self, protocol: u8, spi: &[u8]) -> SaAnswer
+    pub fn sa(self, protocol: u8, spi: &[u8]) -> Option<SaAnswer>
         ensures { result ≡ sa_answer protocol spi.now self }
     {
         let s = self.state;
-        let f = s.find(protocol, spi);
-        if f.found {
-            let a = f.sa;
-            return answer(a);
-        }
-        SaAnswer {
-            found: false,
-            octets: [0u8; SA_OCTETS],
-            count: 0,
-            encryption: 0,
-            wrapping: 0,
-            condition: Condition::Live,
-            lifetime: Lifetime::Unlimited,
-        }
+        let a = s.find(protocol, spi)?;
+        Some(answer(a))
     }
 }

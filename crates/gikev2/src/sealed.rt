@@ -18,7 +18,7 @@ use check_admission::number2::number_2;
 use ikev2_numbers::{EXCHANGE_AT, GSA_REKEY, REKEY_SPI};
 use octets::wide;
 use state::State;
-use state_keys::kinds::{EncryptionKey, RekeyKey};
+use state_keys::kinds::EncryptionKey;
 use state_table::Table;
 
 // Whether number 2 applies to the sealed `frame`: it is no GSA_REKEY, or number 2 of an opened frame applies to its header.
@@ -38,16 +38,8 @@ pub(crate) fn sealing_key(t: Table) -> EncryptionKey
     requires { (table_formed limits t ≡ true) × (any live_rekey (sas_of t) ≡ true) }
     ensures { IsSealingKey t result }
 {
-    let f = t.live_rekey();
-    let s = f.sa;
-    let octets = s.octets;
-    let key = RekeyKey {
-        octets,
-        encryption: s.encryption,
-        wrapping: s.wrapping,
-    };
-    let made = key.encryption_part();
-    made.key
+    let s = t.live_rekey().unwrap();
+    s.rekey_key().encryption_part().unwrap()
 }
 
 impl Member {

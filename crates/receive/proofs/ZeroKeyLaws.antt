@@ -38,7 +38,10 @@ use Rattle.receive.specs.inner.Passing.{Bagged, IsDefaultKey}
 use Rattle.receive.specs.inner.Opening.{IsKeyZero}
 use Rattle.receive.proofs.ClauseLaws.{lent_fits, state-formed, is-rekey, over-live, judges-lent}
 use Rattle.receive.proofs.ConcludingLaws.{table_fits, table_is}
-use Rattle.receive.proofs.ZeroLaws.{lent_key}
+use Rattle.std.specs.Prelude.{Option, Some, is_some, IsSome}
+use Rattle.std.proofs.lemmas.Option.{same_Some}
+use Rattle.state_keys.proofs.Made.{wrapping-made}
+use Rattle.state_keys.specs.Kinds.{key_or_blank}
 
 module _ {e : Exchange} {m : State} {now : ℕ} {lent g k : List ℕ} {bag : Stretch} {f : Frame} (b : Bagged e m now lent g k bag f) where
   -- ---- the lent key
@@ -53,10 +56,13 @@ module _ {e : Exchange} {m : State} {now : ℕ} {lent g k : List ℕ} {bag : Str
     unfolding key_zero_value
     lent-value = rw of-lent refl
 
-    pub lent-zero : (zero : WrappingKey) → zero ≡ (wrapping_key lent).key → Octets lent → IsKeyZero m now lent f zero
+    pub lent-some : (k : Option WrappingKey) → k ≡ wrapping_key lent → IsSome k
+    lent-some k q = ap is_some (q ∙ wrapping-made lent lent-size-fits)
+
+    pub lent-zero : (zero : WrappingKey) → wrapping_key lent ≡ Some zero → Octets lent → IsKeyZero m now lent f zero
     unfolding wrapping_size
     lent-zero zero is o =
-        let w : zero ≡ wrapping_of lent = is ∙ lent_key lent lent-size-fits in
+        let w : zero ≡ wrapping_of lent = same_Some zero (wrapping_of lent) (sym is ∙ wrapping-made lent lent-size-fits) in
         let v : value_of zero ≡ lent = ap value_of w ∙ value-of lent in
         record {
           value = v ∙ sym lent-value;
@@ -97,7 +103,7 @@ module _ {e : Exchange} {m : State} {now : ℕ} {lent g k : List ℕ} {bag : Str
     unfolding wrapping_size
     own-zero zero d array o =
         let v : value_of zero ≡ key_zero_value limits m now lent f =
-        ap value_of (d.is ∙ ap (λ (x : Table). (default_key limits x).key) w) ∙ sym own_value in
+        ap value_of (d.is ∙ ap (λ (x : Table). key_or_blank (default_key limits x)) w) ∙ sym own_value in
         let h = wrapping-le zero.count d.fits in
         let n : length (value_of zero) ≡ zero.count = length-take-le zero.count zero.octets (omega arith) in
         record {

@@ -11,7 +11,7 @@ ghost use Rattle.state.specs.declared.State.{State};
 ghost use Rattle.receive.specs.inner.Passing.{Bagged, IsDefaultKey};
 ghost use Rattle.receive.specs.inner.Opening.{IsKeyZero};
 
-use state_keys::kinds::{RekeyKey, WrappingKey};
+use state_keys::kinds::WrappingKey;
 use state_table::Table;
 use wire_frames::exchanges::KeyZero;
 
@@ -20,16 +20,8 @@ pub fn default_key(t: Table) -> WrappingKey
     requires { (table_formed limits t ≡ true) × (any live_rekey (sas_of t) ≡ true) }
     ensures { IsDefaultKey t result }
 {
-    let f = t.live_rekey();
-    let s = f.sa;
-    let octets = s.octets;
-    let key = RekeyKey {
-        octets,
-        encryption: s.encryption,
-        wrapping: s.wrapping,
-    };
-    let made = key.key_wrap_part();
-    made.key
+    let s = t.live_rekey().unwrap();
+    s.rekey_key().key_wrap_part().unwrap()
 }
 
 // Answers key 0 of a frame: `lent`, or the default key of the live Rekey SA of the member's table `t` as it stands at `tick`. `zero` says
@@ -41,10 +33,7 @@ pub fn key_zero(t: Table, zero: KeyZero, lent: &[u8], tick: u32) -> WrappingKey
         Bagged e m tick lent.now g k bag f → IsKeyZero m tick lent.now f result }
 {
     match zero {
-        KeyZero::Lent => {
-            let made = WrappingKey::new(lent);
-            made.key
-        }
+        KeyZero::Lent => WrappingKey::new(lent).unwrap(),
         KeyZero::RekeySa => default_key(t.sweep(tick)),
     }
 }

@@ -40,6 +40,7 @@ use Rattle.rules_outcome.proofs.RunsClear.{taken}
 use Rattle.rules_outcome.proofs.RunsAccepted.{kinds, lasts}
 use Rattle.rules_outcome.proofs.RunsMade.{Kind, an-esp, a-rekey, Lasts, made-protocol, made-spi}
 use Rattle.rules_outcome.proofs.Runs.{accepted-formed}
+use Rattle.std.specs.Prelude.{Some}
 
 by-none : (now : ℕ) → lifetime_from now [] ≡ Unlimited
 unfolding lifetime_from
@@ -110,7 +111,7 @@ module _ (limits : Limits) (s : State) (now : ℕ) (lent octets : List ℕ) (f :
       accepted-formed limits s now lent f t.is-clear next t.after octets e
 
   asked-found : (p : ℕ) (x : List ℕ) (b : Sa) → In b (sas_of next.table) → named p x b ≡ true →
-      asked_sa limits p x next ≡ record { found = true; sa = b }
+      asked_sa limits p x next ≡ Some b
   unfolding asked_sa state_formed
   asked-found p x b m n =
       let t = and_parts (table_formed limits next.table) (held_formed limits next.held) next-formed in

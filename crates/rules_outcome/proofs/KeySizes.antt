@@ -14,7 +14,6 @@ use Rattle.state_keys.specs.declared.kinds.RekeyKey.{RekeyKey}
 use Rattle.lists.proofs.Cases.{bool_cases}
 use Rattle.wire_frames.specs.Frame.{Frame}
 use Rattle.wire_frames.specs.declared.exchanges.Exchange.{Exchange}
-use Rattle.state_table.specs.declared.SaFound.{SaFound}
 use Rattle.state_table.specs.Table.{swept, found_rekey, key_wrap_part_of, default_key}
 use Rattle.state.specs.declared.State.{State}
 use Rattle.rules_refusals.specs.Contents.{row_of}
@@ -25,12 +24,16 @@ use Rattle.rules_refusals.proofs.Clear.{no-clause}
 use Rattle.rules_refusals.proofs.ExchangeRows.{by_row}
 use Rattle.rules_outcome.specs.Roots.{own_key_of, key_zero_by, key_zero_value, wrapping_size}
 use Rattle.rules_outcome.proofs.RunsClear.{Clear}
+use Rattle.std.specs.Prelude.{Option, Some, None}
+use Rattle.state_sa.specs.Entry.{keying_of}
+use Rattle.state_keys.specs.Kinds.{key_or_blank}
+use Rattle.state_sa.specs.declared.entry.Sa.{Sa}
 
 -- a size of the table, or none
 abbrev pub Sized : ℕ → Type 0
 Sized n = (n ≡ 0) ⊎ (is_wrapping_size n ≡ true)
 
-made-sized : (x : List ℕ) → Sized (length (value_of (wrapping_key x).key))
+made-sized : (x : List ℕ) → Sized (length (value_of (key_or_blank (wrapping_key x))))
 unfolding wrapping_key
 made-sized x =
     bool_cases (is_wrapping_size (length x))
@@ -39,18 +42,16 @@ made-sized x =
     (inr (ap (λ (l : List ℕ). is_wrapping_size (length l)) (take-append_seam x (replicate (32 - length x) 0)) ∙ e)))
     (λ e. rw e (inl refl))
 
-part-sized : (k : RekeyKey) → Sized (length (value_of (key_wrap_part k).key))
+part-sized : (k : RekeyKey) → Sized (length (value_of (key_or_blank (key_wrap_part k))))
 unfolding key_wrap_part
 part-sized k =
     bool_cases (rekey_sizes k.encryption k.wrapping)
-    (λ e. rw e (made-sized (take k.wrapping (drop k.encryption k.octets)))) (λ e. rw e (made-sized []))
+    (λ e. rw e (made-sized (take k.wrapping (drop k.encryption k.octets)))) (λ e. rw e (inl refl))
 
-found-sized : (f : SaFound) → Sized (length (value_of (key_wrap_part_of f).key))
+found-sized : (f : Option Sa) → Sized (length (value_of (key_or_blank (key_wrap_part_of f))))
 unfolding key_wrap_part_of
-found-sized f =
-    bool_cases f.found
-    (λ e. rw e (part-sized (record { octets = f.sa.octets; encryption = f.sa.encryption; wrapping = f.sa.wrapping })))
-    (λ e. rw e (made-sized []))
+found-sized (Some b) = part-sized (keying_of b)
+found-sized None = inl refl
 
 pub own-sized : (limits : Limits) (s : State) (now : ℕ) → Sized (length (own_key_of limits s now))
 unfolding default_key

@@ -17,7 +17,6 @@ use Rattle.lists.proofs.Members.{member-kept}
 use Rattle.state_keys.proofs.Sizes.{rekey-parts, rekey-le}
 use Rattle.state_sa.specs.Entry.{esp_protocol, rekey_protocol, is_live, sa_sized, fit_lifetime, sa_formed, live_rekey, due}
 use Rattle.state_sa.specs.declared.entry.Sa.{Sa}
-use Rattle.state_table.specs.declared.SaFound.{SaFound}
 use Rattle.state_table.specs.Table.{sas_of, table_formed, swept, stays, found_rekey, key_wrap_part_of, default_key}
 use Rattle.state_table.proofs.Kept.{formed-fit, swept-formed}
 use Rattle.state_table.proofs.Finds.{rekey-found}
@@ -29,6 +28,8 @@ use Rattle.rules_chains.proofs.Members.{in-member}
 use Rattle.rules_outcome.specs.Roots.{own_key_of}
 use Rattle.rules_outcome.proofs.RunsLists.{all_pass}
 use Rattle.rules_outcome.proofs.RunsOld.{swept-sas}
+use Rattle.std.specs.Prelude.{Option, Some}
+use Rattle.state_keys.specs.Kinds.{key_or_blank}
 
 module _ (limits : Limits) (s : State) (now : ℕ) (is-formed : state_formed limits s ≡ true) (b : Sa) (m : In b (sas_of s.table))
     (live : live_rekey b ≡ true) (not-due : due now b ≡ false) where
@@ -42,7 +43,7 @@ module _ (limits : Limits) (s : State) (now : ℕ) (is-formed : state_formed lim
       subst (Memᴰ b) (sym (swept-sas limits s now table_is))
       (member-kept (stays now) b (sas_of s.table) (in-member b (sas_of s.table) m) (ap not not-due))
 
-  the-live : found_rekey limits (swept limits now s.table) ≡ record { found = true; sa = b }
+  the-live : found_rekey limits (swept limits now s.table) ≡ Some b
   the-live = rekey-found limits (swept limits now s.table) (swept-formed limits now s.table table_is) b stands live
 
   sizes : rekey_sizes b.encryption b.wrapping ≡ true
@@ -73,5 +74,5 @@ module _ (limits : Limits) (s : State) (now : ℕ) (is-formed : state_formed lim
     own-key-of-live =
         let fit : is_wrapping_size (length part) ≡ true = ap is_wrapping_size part_length ∙ (rekey-parts b.encryption
         b.wrapping sizes).1 in
-        ap (λ (f : SaFound). value_of (key_wrap_part_of f).key) the-live
+        ap (λ (f : Option Sa). value_of (key_or_blank (key_wrap_part_of f))) the-live
         ∙ rw (sizes, fit) (take-append_seam part (replicate (32 - length part) 0))

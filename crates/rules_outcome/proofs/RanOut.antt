@@ -5,6 +5,7 @@ use mathlib.Core.Bool.{Bool, true, false, not, ◌||◌, false≢true}
 use mathlib.Core.Logic.{inl}
 use mathlib.Core.List.{List, Memᴰ}
 use borrow.Author.Tests.{not-true}
+use Rattle.std.proofs.lemmas.Option.{same_Some}
 use Rattle.state_keys.specs.Limits.{Limits, limits}
 use Rattle.lists.specs.Lists.{any}
 use Rattle.lists.proofs.Cases.{bool_cases, and_parts}
@@ -15,7 +16,6 @@ use Rattle.wire_frames.specs.Exchange.{exchange_of}
 use Rattle.state_sa.specs.Entry.{sa_formed, due}
 use Rattle.state_sa.proofs.Lifetimes.{formed-lifetime}
 use Rattle.state_sa.specs.declared.entry.Sa.{Sa}
-use Rattle.state_table.specs.declared.SaFound.{SaFound}
 use Rattle.state_table.specs.Table.{sas_of, table_formed, swept, stays}
 use Rattle.state_table.proofs.Kept.{formed-fit}
 use Rattle.state_table.proofs.Finds.{rekey-found}
@@ -93,7 +93,7 @@ module _ (limits : Limits) (now : ℕ) (lent octets : List ℕ) (f : Frame) (x :
       the_one c k o =
           let first = rekey-found limits s.table table_is b (in-member b (sas_of s.table) m) (over-parts spi b over).0 in
           let second = rekey-found limits s.table table_is c k (over-parts spi c o).0 in
-          let same : b ≡ c = ap (λ (r : SaFound). r.sa) (sym first ∙ second) in
+          let same : b ≡ c = same_Some b c (sym first ∙ second) in
           subst (λ (a : Sa). due now a ≡ true) same is-due
 
       -- so none stands, in a table whose SAs are of this one

@@ -10,8 +10,7 @@ use lib.ListN.{length}
 use Rattle.lists.specs.Lists.{all, any, count}
 use Rattle.state_keys.specs.Algorithms.{needed_by, is_wrapping_size, is_encryption_size}
 use Rattle.state_keys.specs.Kinds.{rekey_sizes}
-use Rattle.state_keys.specs.declared.algorithms.Needed.{Needed}
-use Rattle.state_keys.specs.declared.algorithms.Needed.TheVariants.{Octets, Nothing}
+use Rattle.std.specs.Prelude.{Option, Some, None}
 use Rattle.lists.proofs.Cases.{bool_cases, and_parts, and-whole}
 use Rattle.state_keys.proofs.Sizes.{needed-size}
 use Rattle.wire_policies.specs.Transform.{Transform}
@@ -200,9 +199,9 @@ module _ (l : List Transform) where
   rekey-needs false e = rekey-needs-two e
 
 -- ---- what one needs is a number of the algorithm table
-octets-are : (n : Needed) → is_octets n ≡ true → n ≡ Octets (octets_needed n)
-octets-are (Octets n) e = refl
-octets-are Nothing e = absurd (false≢true e)
+octets-are : (n : Option ℕ) → is_octets n ≡ true → n ≡ Some (octets_needed n)
+octets-are (Some n) e = refl
+octets-are None e = absurd (false≢true e)
 
 lengths-size : (id : ℕ) (l : List ℕ) → ltb 1 (length l) ≡ false → any (λ (b : ℕ). is_octets (needed_by 1 id b)) l ≡ true →
     is_encryption_size (sum (λ (b : ℕ). octets_needed (needed_by 1 id b)) l) ≡ true

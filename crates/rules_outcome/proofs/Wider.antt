@@ -10,7 +10,6 @@ use lib.ListN.{length, length-take}
 use Rattle.state_keys.specs.Limits.{Limits, limits, limits_before_t01}
 use Rattle.lists.specs.Lists.{all, any, count, rising}
 use Rattle.state_keys.specs.Kinds.{value_of}
-use Rattle.state_keys.specs.declared.kinds.MadeWrapping.{MadeWrapping}
 use Rattle.lists.proofs.Rising.{length-keep}
 use Rattle.lists.proofs.Cases.{bool_cases, and_parts, or-none}
 use Rattle.wire_bags.specs.Bag.{GroupKeyBag}
@@ -49,6 +48,9 @@ use Rattle.rules_outcome.specs.Outcome.{Judged, refused, accepted, NoTree, Outco
 use Rattle.rules_outcome.proofs.Following.{Follow, none, more, first-kept, alike}
 use Rattle.rules_outcome.proofs.WiderHeld.{SameKeys, found, next-then}
 use Rattle.rules_outcome.specs.Wider.{Wider, Within, SameMember, in_places, AnswerKept, AnswersKept}
+use Rattle.std.specs.Prelude.{Option}
+use Rattle.state_keys.specs.Kinds.{key_or_blank}
+use Rattle.state_keys.specs.declared.kinds.WrappingKey.{WrappingKey}
 
 -- ---- what is not over a limit is not over a wider one
 not-over : (x y n : ℕ) → x ≤ y → ltb x n ≡ false → ltb y n ≡ false
@@ -110,7 +112,7 @@ module _ (a b : Limits) (w : Wider a b) (s t : State) (i : Within a s) (m : Same
 
     own : own_key_of a s now ≡ own_key_of b t now
     own =
-        ap (λ (k : MadeWrapping). value_of k.key)
+        ap (λ (k : Option WrappingKey). value_of (key_or_blank k))
         (made a s.table sas-a ∙ ap (λ (l : List Sa). key_wrap_part_of (the_one live_rekey l)) stand ∙ sym (made b t.table sas-b))
 
     module _ (lent : List ℕ) (f : Frame) where

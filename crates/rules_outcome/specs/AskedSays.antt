@@ -11,6 +11,7 @@ use Rattle.rules_refusals.specs.Fitness.{encryption_octets, key_wrap_octets}
 use Rattle.rules_outcome.specs.Roots.{need_of}
 use Rattle.rules_outcome.specs.NamedKey.{OpensUnder}
 use Rattle.rules_outcome.specs.LifetimeSays.{LifetimeAs}
+use Rattle.std.specs.Prelude.{Some}
 
 module _ (limits : Limits) (s : State) (now : ℕ) (lent : List ℕ) (f : Frame) (next : State) where
   -- asked for the protocol and SPI of policy `p`, the next member finds a live SA. Every copy of its key that opens gives its octets, as
@@ -22,7 +23,7 @@ module _ (limits : Limits) (s : State) (now : ℕ) (lent : List ℕ) (f : Frame)
     pub every : (y : List ℕ) → OpensUnder limits s now lent f p y → y ≡ keying
     pub size : length keying ≡ need_of p
     pub sa : Sa
-    pub found : asked_sa limits p.protocol p.spi next ≡ record { found = true; sa = sa }
+    pub found : asked_sa limits p.protocol p.spi next ≡ Some sa
     pub protocol : sa.protocol ≡ p.protocol
     pub has : take sa.count sa.octets ≡ keying
     pub count : sa.count ≡ need_of p

@@ -20,11 +20,12 @@ use Rattle.rules_refusals.specs.Fitness.{encryption_octets, key_wrap_octets}
 use Rattle.rules_refusals.specs.Number6.{bag_named}
 use Rattle.rules_chains.specs.Chain.{Root}
 use Rattle.rules_chains.specs.Refusals.{Announced}
+use Rattle.state_keys.specs.Kinds.{key_or_blank}
 
 -- "Registration frames .. come with a lent default key; GSA_REKEY frames use the live Rekey SA's own, and the lent one is not read": that
 -- SA's default key, of the table as it stands at the tick. GSA_INBAND_REKEY "comes with a lent default key of the member's IKE SA" (T-02)
 abbrev pub own_key_of : Limits → State → ℕ → List ℕ
-own_key_of limits s now = value_of (default_key limits (swept limits now s.table)).key
+own_key_of limits s now = value_of (key_or_blank (default_key limits (swept limits now s.table)))
 
 abbrev pub key_zero_by : KeyZero → List ℕ → List ℕ → List ℕ
 key_zero_by zero.Lent lent own = lent

@@ -1,13 +1,11 @@
 -- What the destination of a Rekey policy and the transforms of a policy must be, and the keying octets that transforms need.
-use Rattle.std.specs.Prelude.{ℕ, ◌+◌, List, [], ◌∷◌, Bool, true, false, cond, ◌&&◌, ◌||◌, length, leb, eqb}
+use Rattle.std.specs.Prelude.{ℕ, ◌+◌, List, [], ◌∷◌, Bool, true, false, cond, ◌&&◌, ◌||◌, length, leb, eqb, Option, is_some, unwrap_or}
 use Rattle.ikev2_numbers.specs.Codes.{gcauth_digital_signature, gcauth_implicit, ipv4_group_first, ipv4_group_last, ipv4_range, ipv6_group}
 use Rattle.ikev2_numbers.specs.Codes.{protocol_ah, sn_sequential, sn_unspecified, transform_encr, transform_gcauth, transform_kwa, transform_sn}
 use Rattle.octets.specs.Numbers.{oct}
 use Rattle.octets.specs.Compare.{same}
 use Rattle.lists.specs.Lists.{all, any, count}
 use Rattle.state_keys.specs.Algorithms.{needed_by}
-use Rattle.state_keys.specs.declared.algorithms.Needed.{Needed}
-use Rattle.state_keys.specs.declared.algorithms.Needed.TheVariants.{Octets, Nothing}
 use Rattle.state_sa.specs.Entry.{esp_protocol, rekey_protocol}
 use Rattle.wire_policies.specs.Selector.{Selector}
 use Rattle.wire_policies.specs.Transform.{Transform}
@@ -37,13 +35,11 @@ one_group_address s =
 -- or 2 (001 bars ID 1). Rekey has exactly one each of type 1, type 13 (one of the three) and the controller authentication type, either
 -- method." RFC 9838, section 4.4.2.1.1: that type is 14, its methods are Implicit (1) and Digital Signature (2); section 4.4.2.1.3:
 -- Sequence Numbers 2 are "32-bit Unspecified Numbers", and 1, "Partially Transmitted 64-bit Sequential Numbers", "MUST NOT be used"
-abbrev pub octets_needed : Needed → ℕ
-octets_needed (Octets n) = n
-octets_needed Nothing = 0
+abbrev pub octets_needed : Option ℕ → ℕ
+octets_needed n = unwrap_or n 0
 
-abbrev pub is_octets : Needed → Bool
-is_octets (Octets n) = true
-is_octets Nothing = false
+abbrev pub is_octets : Option ℕ → Bool
+is_octets n = is_some n
 
 -- with one of its Key Lengths it is a row of the algorithm table
 unfoldable pub encryption_fits : Transform → Bool

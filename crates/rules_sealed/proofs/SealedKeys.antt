@@ -17,14 +17,12 @@ use Rattle.state_keys.specs.Limits.{Limits}
 use Rattle.state_keys.specs.Algorithms.{is_encryption_size}
 use Rattle.state_keys.specs.Kinds.{encryption_of, encryption_key, rekey_sizes, encryption_part}
 use Rattle.state_keys.specs.declared.kinds.EncryptionKey.{EncryptionKey}
-use Rattle.state_keys.specs.declared.kinds.MadeEncryption.{MadeEncryption}
 use Rattle.lists.specs.Lists.{any}
 use Rattle.lists.proofs.Cases.{and_parts}
 use Rattle.lists.proofs.Members.{kept-member}
 use Rattle.state_keys.proofs.Sizes.{among-is, encryption-size, rekey-parts, rekey-le}
 use Rattle.state_sa.specs.Entry.{esp_protocol, rekey_protocol, is_live, sa_spi, named, sa_sized, fit_lifetime, sa_formed, live_rekey, due}
 use Rattle.state_sa.specs.declared.entry.Sa.{Sa}
-use Rattle.state_table.specs.declared.SaFound.{SaFound}
 use Rattle.state_table.specs.declared.Table.{Table}
 use Rattle.state_table.specs.Table.{sas_of, table_formed, stays, found_rekey}
 use Rattle.state_table.proofs.Kept.{formed-fit}
@@ -44,11 +42,16 @@ use Rattle.rules_sealed.specs.SealingKey.{encryption_of_found, sealing_key, encr
 use Rattle.rules_sealed.specs.SealedOutcome.{sealed_number2}
 use Rattle.rules_sealed.specs.SealedSays.{LongArrays, SealedOver}
 use Rattle.rules_sealed.proofs.SealedHeader.{is-formed, stands-over}
+use Rattle.std.specs.Prelude.{Option, Some, is_some, IsSome}
+use Rattle.std.proofs.lemmas.Option.{same_Some}
+use Rattle.state_keys.proofs.Made.{encryption-made}
+use Rattle.state_sa.specs.Entry.{keying_of}
+use Rattle.state_keys.specs.Kinds.{encryption_or_blank}
 
 -- the live Rekey SA of a table that is as it must be
 module _ (limits : Limits) (t : Table) (formed : table_formed limits t ≡ true) (b : Sa) (m : Memᴰ b (sas_of t))
     (live : live_rekey b ≡ true) where
-  the-live : found_rekey limits t ≡ record { found = true; sa = b }
+  the-live : found_rekey limits t ≡ Some b
   the-live = rekey-found limits t formed b m live
 
   sizes : rekey_sizes b.encryption b.wrapping ≡ true
@@ -75,40 +78,59 @@ module _ (limits : Limits) (t : Table) (formed : table_formed limits t ≡ true)
     part-fit = ap is_encryption_size part_length ∙ (rekey-parts b.encryption b.wrapping sizes).0
 
     -- the key that is found is the first octets of its keying octets
-    key-is : (encryption_of_found (found_rekey limits t)).key ≡ encryption_of part
-    unfolding encryption_of_found encryption_part encryption_key
-    key-is = ap (λ (f : SaFound). (encryption_of_found f).key) the-live ∙ rw (sizes, part-fit)
+    part-is : encryption_part (keying_of b) ≡ Some (encryption_of part)
+    unfolding encryption_part
+    part-is = rw sizes (encryption-made part part-fit)
 
-    octets-are : encryption_octets_of (encryption_of_found (found_rekey limits t)).key ≡ part
+    found-key : encryption_of_found (found_rekey limits t) ≡ Some (encryption_of part)
+    unfolding encryption_of_found
+    found-key = ap encryption_of_found the-live ∙ part-is
+
+    key-is : encryption_or_blank (encryption_of_found (found_rekey limits t)) ≡ encryption_of part
+    key-is = ap encryption_or_blank found-key
+
+    octets-are : encryption_octets_of (encryption_or_blank (encryption_of_found (found_rekey limits t))) ≡ part
     octets-are = ap encryption_octets_of key-is ∙ take-append_seam part (replicate (36 - length part) 0)
 
-    count-fit : is_encryption_size (encryption_of_found (found_rekey limits t)).key.count ≡ true
+    count-fit : is_encryption_size (encryption_or_blank (encryption_of_found (found_rekey limits t))).count ≡ true
     count-fit = ap (λ (k : EncryptionKey). is_encryption_size k.count) key-is ∙ part-fit
 
 -- what the code finds: the live Rekey SA of a table, and the first part of its keying octets
-module _ (limits : Limits) (t : Table) (formed : table_formed limits t ≡ true) (some : any live_rekey (sas_of t) ≡ true) (f : SaFound)
-    (ef : f ≡ found_rekey limits t) (long : length f.sa.octets ≡ 68) (k : MadeEncryption)
-    (ek : k ≡ encryption_part (record { octets = f.sa.octets; encryption = f.sa.encryption; wrapping = f.sa.wrapping })) where
+module _ (limits : Limits) (t : Table) (formed : table_formed limits t ≡ true) (some : any live_rekey (sas_of t) ≡ true) where
   live : Passes live_rekey (sas_of t)
   live = some-passes live_rekey (sas_of t) some
 
-  found-is : f ≡ record { found = true; sa = live.one }
-  unfolding live
-  found-is = ef ∙ the-live limits t formed live.one live.stands live.passes
+  live-found : found_rekey limits t ≡ Some live.one
+  live-found = the-live limits t formed live.one live.stands live.passes
 
-  long-live : 68 ≤ length live.one.octets
-  long-live = let e = ap (λ (g : SaFound). length g.sa.octets) found-is in omega (arith, e, long)
+  pub live-stands : (f : Option Sa) → f ≡ found_rekey limits t → IsSome f
+  live-stands f g = ap is_some (g ∙ live-found)
 
-  pub sealing-key-found : k.key ≡ (encryption_of_found (found_rekey limits t)).key
-  unfolding encryption_of_found
-  sealing-key-found =
-      ap (λ (x : MadeEncryption). x.key) ek
-      ∙ sym (ap (λ (g : SaFound). (encryption_of_found g).key) (sym ef) ∙ rw (ap (λ (g : SaFound). g.found) found-is))
+  module _ (b : Sa) (is : found_rekey limits t ≡ Some b) (long : length b.octets ≡ 68) where
+    same-live : live.one ≡ b
+    same-live = same_Some live.one b (sym live-found ∙ is)
 
-  pub sealing-key-sized : is_encryption_size k.key.count ≡ true
-  sealing-key-sized =
-      ap (λ (x : EncryptionKey). is_encryption_size x.count) sealing-key-found
-      ∙ count-fit limits t formed live.one live.stands live.passes long-live
+    stands-live : Memᴰ b (sas_of t)
+    stands-live = subst (λ (a : Sa). Memᴰ a (sas_of t)) same-live live.stands
+
+    passes-live : live_rekey b ≡ true
+    passes-live = subst (λ (a : Sa). live_rekey a ≡ true) same-live live.passes
+
+    long-live : 68 ≤ length b.octets
+    long-live = omega (arith, long)
+
+    pub sealing-part-stands : (r : Option EncryptionKey) → r ≡ encryption_part (keying_of b) → IsSome r
+    sealing-part-stands r q = ap is_some (q ∙ part-is limits t formed b stands-live passes-live long-live)
+
+    module _ (k : EncryptionKey) (q : encryption_part (keying_of b) ≡ Some k) where
+      pub sealing-key-found : k ≡ encryption_or_blank (encryption_of_found (found_rekey limits t))
+      unfolding encryption_of_found
+      sealing-key-found = sym (ap encryption_or_blank (ap encryption_of_found is ∙ q))
+
+      pub sealing-key-sized : is_encryption_size k.count ≡ true
+      sealing-key-sized =
+          ap (λ (x : EncryptionKey). is_encryption_size x.count) sealing-key-found
+          ∙ count-fit limits t formed b stands-live passes-live long-live
 
 module _ (limits : Limits) (s : State) (now : ℕ) (octets : List ℕ)
     (no-2 : applies (sealed_number2 limits s now (header_of octets)) ≡ true → ⊥) where

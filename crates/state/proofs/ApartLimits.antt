@@ -8,6 +8,7 @@ use lib.ListN.{replicate}
 use Rattle.lists.specs.Lists.{all, any, insert}
 use Rattle.state_keys.specs.Limits.{Limits}
 use Rattle.state_keys.specs.Algorithms.{size_of}
+use Rattle.std.specs.Prelude.{is_some}
 use Rattle.state_keys.specs.Kinds.{wrapping_of}
 use Rattle.state.specs.declared.held.Held.{Held}
 use Rattle.state.specs.declared.held.HeldKey.{HeldKey}
@@ -35,7 +36,7 @@ pub record HeldWithin : Type 0 where
   pub taken : held_formed apart two ≡ true
   pub over : held_formed apart three ≡ false
   -- a list of so many has its keys, one of one more has none
-  pub found : (held_key apart 2 two).fits ≡ true
+  pub found : is_some (held_key apart 2 two) ≡ true
   pub not_found : held_key apart 2 three ≡ without_key
   -- so many enter, one more does not
   pub enters : entered_key apart (key 2) (held_of apart (key 1 ∷ [])) ≡ two

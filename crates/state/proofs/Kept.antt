@@ -10,6 +10,7 @@ use borrow.Author.Tests.{le-leb, lt-ltb, le-ltb, ltb-true, eq-eqb, ne_eqb, eqb-f
 use lib.Dec.{eqb}
 use lib.ListN.{length, replicate}
 use lib.Seq.{take-append_seam}
+use Rattle.std.specs.Prelude.{Some}
 use Rattle.state_keys.specs.Limits.{Limits}
 use Rattle.lists.specs.Lists.{all, any, rising, insert}
 use Rattle.lists.proofs.Cases.{bool_cases, lt-cases, and_parts, and-whole}
@@ -84,7 +85,7 @@ rising-distinct (k ∷ l) r =
 
 -- the lookup asks for no more than distinct Key IDs: a key of the list is the one that is found
 pub distinct-found : (k : HeldKey) (l : List HeldKey) → distinct (ids_of l) ≡ true → Memᴰ k l →
-    key_with k.id l ≡ record { fits = true; key = k.key }
+    key_with k.id l ≡ Some k.key
 unfolding key_with
 distinct-found k [] d m = absurd (Memᴰ.not-nil m)
 distinct-found k (a ∷ l) d m =
@@ -92,7 +93,7 @@ distinct-found k (a ∷ l) d m =
     ⊎_elim
     (λ e.
     let q : a.id ≡ k.id = ap (λ (x : HeldKey). x.id) (sym e) in
-    rw (eq-eqb a.id k.id q) (ap (λ (x : HeldKey). record { fits = true; key = x.key }) (sym e)))
+    rw (eq-eqb a.id k.id q) (ap (λ (x : HeldKey). Some x.key) (sym e)))
     (λ z. rw (ne_eqb a.id k.id (λ e. not-among a.id k l p.0 z (sym e))) (distinct-found k l p.1 z))
     (Memᴰ.cases_cons m)
 

@@ -1,18 +1,19 @@
 -- What the code of a state finds is what the definitions say.
 use native.Mathlib.Numerals.{add-one}
-use Prim.Native.Nat.{ℕ, ◌+◌, ◌-◌, ◌≤◌, ◌<◌, ◌^◌}
+use Prim.Native.Nat.{ℕ, suc, ◌+◌, ◌-◌, ◌≤◌, ◌<◌, ◌^◌}
 use mathlib.Core.Path.{◌≡◌, refl, ap, sym, ◌∙◌}
-use mathlib.Core.Bool.{Bool, true, false, not}
+use mathlib.Core.Bool.{Bool, true, false, ◌||◌}
 use mathlib.Core.List.{List, [], ◌∷◌, ◌++◌}
 use borrow.Author.Tests.{le-leb, lt-leb, lt-ltb, le-ltb, eq-eqb, ne_eqb}
-use lib.ListN.{length, take, drop, get_or, set, replicate}
-use lib.Seq.{take-suc, take-suc-set}
+use lib.ListN.{length, take, drop, get_or, set, replicate, drop_of_length-le}
+use lib.Seq.{drop-cons, take-suc, take-suc-set}
+use Rattle.std.specs.Prelude.{Option, Some}
+use Rattle.std.specs.List.{list_any}
+use Rattle.state_sa.specs.declared.entry.Sa.{Sa}
 use Rattle.state_keys.specs.Limits.{Limits}
 use Rattle.lists.specs.Lists.{all, any, insert}
 use Rattle.state_keys.specs.Algorithms.{is_wrapping_size}
-use Rattle.lists.proofs.Parts.{part-cons, part_end}
 use Rattle.state_table.specs.declared.Table.{Table}
-use Rattle.state_table.specs.declared.SaFound.{SaFound}
 use Rattle.state_table.specs.Table.{table_formed, swept, none, found_sa}
 use Rattle.state.specs.declared.least.Least.TheVariants.{Id, NoneAnyMore}
 use Rattle.state.specs.declared.held.HeldKey.{HeldKey}
@@ -32,48 +33,57 @@ pub after_last : (id : ℕ) → 2 ^ 32 - 1 ≤ id → NoneAnyMore ≡ after_id i
 unfolding after_id
 after_last id h = rw (le-ltb id (2 ^ 32 - 1) h)
 
--- ---- the search of a held key
-module _ (id : ℕ) (l : List HeldKey) (n : ℕ) (h : n ≤ length l) (j : ℕ) where
-  pub key_here : (d : HeldKey) → j < n → (get_or l j d).id ≡ id → key_with id
-      (drop j (take n l)) ≡ record { fits = true; key = (get_or l j d).key }
+-- ---- the search of a held key: at place j of a list stands the key that is found, or the search goes on, or it ends
+module _ (id : ℕ) (l : List HeldKey) (j : ℕ) where
+  pub key_here : (d : HeldKey) → j < length l → (get_or l j d).id ≡ id → key_with id (drop j l) ≡ Some (get_or l j d).key
   unfolding key_with
-  key_here d g e = rw (part-cons l n h j d g, eq-eqb (get_or l j d).id id e)
+  key_here d h e = rw (drop-cons l j d, eq-eqb (get_or l j d).id id e)
 
-  pub key-next : (d : HeldKey) → j < n → ((get_or l j d).id ≡ id → ⊥) → key_with id (drop j (take n l)) ≡ key_with id (drop (j + 1) (take n l))
+  pub key-next : (d : HeldKey) → j < length l → ((get_or l j d).id ≡ id → ⊥) → key_with id (drop j l) ≡ key_with id (drop (j + 1) l)
   unfolding key_with
-  key-next d g e = rw (part-cons l n h j d g, ne_eqb (get_or l j d).id id e)
+  key-next d h e = rw (drop-cons l j d, ne_eqb (get_or l j d).id id e, add-one)
 
-  pub key-end : n ≤ j → key_with id (drop j (take n l)) ≡ without_key
+  pub key-end : length l ≤ j → key_with id (drop j l) ≡ without_key
   unfolding key_with
-  key-end g = rw (part_end l n h j g)
+  key-end h = rw (drop_of_length-le l h)
 
--- ---- Key IDs: one among the first n from place j on, and whether these are distinct
-module _ (s : List ℕ) (n : ℕ) (h : n ≤ length s) (j : ℕ) where
-  module _ (id : ℕ) where
-    pub has_here : j < n → get_or s j 0 ≡ id → has id (drop j (take n s)) ≡ true
-    unfolding any
-    has_here g e = rw (part-cons s n h j 0 g, eq-eqb (get_or s j 0) id e)
-
-    pub has-next : j < n → (get_or s j 0 ≡ id → ⊥) → has id (drop j (take n s)) ≡ has id (drop (j + 1) (take n s))
-    unfolding any
-    has-next g e = rw (part-cons s n h j 0 g, ne_eqb (get_or s j 0) id e)
-
-    pub has_end : n ≤ j → has id (drop j (take n s)) ≡ false
-    unfolding any
-    has_end g = rw (part_end s n h j g)
-
-  pub distinct-yes : j < n → true ≡ not (has (get_or s j 0) (drop (j + 1) (take n s))) →
-      distinct (drop j (take n s)) ≡ distinct (drop (j + 1) (take n s))
+-- ---- Key IDs: whether those of a list from place j on are distinct
+module _ (s : List ℕ) (j : ℕ) where
+  pub distinct-yes : j < length s → false ≡ has (get_or s j 0) (drop (j + 1) s) → distinct (drop j s) ≡ distinct (drop (j + 1) s)
   unfolding distinct
-  distinct-yes g e = rw (part-cons s n h j 0 g, ← e)
+  distinct-yes h e =
+      let f : false ≡ has (get_or s j 0) (drop (suc j) s) = rw add-one at e in
+      rw (drop-cons s j 0, ← f, add-one)
 
-  pub distinct-no : j < n → false ≡ not (has (get_or s j 0) (drop (j + 1) (take n s))) → distinct (drop j (take n s)) ≡ false
+  pub distinct-no : j < length s → true ≡ has (get_or s j 0) (drop (j + 1) s) → distinct (drop j s) ≡ false
   unfolding distinct
-  distinct-no g e = rw (part-cons s n h j 0 g, ← e)
+  distinct-no h e =
+      let f : true ≡ has (get_or s j 0) (drop (suc j) s) = rw add-one at e in
+      rw (drop-cons s j 0, ← f)
 
-  pub distinct-end : n ≤ j → distinct (drop j (take n s)) ≡ true
+  pub distinct-end : length s ≤ j → distinct (drop j s) ≡ true
   unfolding distinct
-  distinct-end g = rw (part_end s n h j g)
+  distinct-end h = rw (drop_of_length-le s h)
+
+-- whether each key of a list passes, from place j on
+module _ (p : HeldKey → Bool) (l : List HeldKey) (j : ℕ) (d : HeldKey) where
+  pub each-yes : j < length l → true ≡ p (get_or l j d) → all p (drop j l) ≡ all p (drop (j + 1) l)
+  unfolding all
+  each-yes h e = rw (drop-cons l j d, ← e, add-one)
+
+  pub each-no : j < length l → false ≡ p (get_or l j d) → all p (drop j l) ≡ false
+  unfolding all
+  each-no h e = rw (drop-cons l j d, ← e)
+
+pub each-end : (p : HeldKey → Bool) (l : List HeldKey) (j : ℕ) → length l ≤ j → all p (drop j l) ≡ true
+unfolding all
+each-end p l j h = rw (drop_of_length-le l h)
+
+-- the library's word for the test of a list says the same
+pub any-list : {A : Type 0} (p : A → Bool) (l : List A) → list_any p l ≡ any p l
+unfolding any
+any-list p [] = refl
+any-list p (a ∷ l) = ap (λ (b : Bool). p a || b) (any-list p l)
 
 -- the Key IDs of one key more are copied
 ids-end : (l : List HeldKey) (k : HeldKey) → ids_of (l ++ (k ∷ [])) ≡ ids_of l ++ (k.id ∷ [])
@@ -149,11 +159,11 @@ module _ (limits : Limits) (s : State) where
   unfolding swept_state
   swept-no now e = rw e
 
-  pub asked-yes : (p : ℕ) (x : List ℕ) (r : SaFound) → state_formed limits s ≡ true → r ≡ found_sa limits p x
+  pub asked-yes : (p : ℕ) (x : List ℕ) (r : Option Sa) → state_formed limits s ≡ true → r ≡ found_sa limits p x
       s.table → r ≡ asked_sa limits p x s
   unfolding asked_sa
   asked-yes p x r e f = rw e f
 
-  pub asked-no : (p : ℕ) (x : List ℕ) (r : SaFound) → state_formed limits s ≡ false → r ≡ none → r ≡ asked_sa limits p x s
+  pub asked-no : (p : ℕ) (x : List ℕ) (r : Option Sa) → state_formed limits s ≡ false → r ≡ none → r ≡ asked_sa limits p x s
   unfolding asked_sa
   asked-no p x r e f = rw e f

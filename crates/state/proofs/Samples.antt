@@ -5,6 +5,7 @@ use mathlib.Core.Bool.{true, false}
 use lib.ListN.{replicate}
 use Rattle.lists.specs.Lists.{any}
 use Rattle.state_keys.specs.Algorithms.{size_of}
+use Rattle.std.specs.Prelude.{None}
 use Rattle.state_keys.specs.Kinds.{wrapping_key}
 use Rattle.state.specs.declared.least.Least.TheVariants.{Id}
 use Rattle.state.specs.Least.{acceptable, after_id}
@@ -29,6 +30,6 @@ unfolding after_id
 after-the-last id = refl
 
 -- "a 28-octet default key: 5"
-pub no-key-of-28 : (wrapping_key (replicate 28 0)).fits ≡ false
+pub no-key-of-28 : wrapping_key (replicate 28 0) ≡ None
 unfolding wrapping_key size_of any
 no-key-of-28 = refl

@@ -1,11 +1,11 @@
 -- "A held list of at most 32 wrapping keys (Key ID, value), Key IDs rising, none 0, values of 16, 24 or 32 octets." By document 02 at most
 -- 128 (T-01), and "A member's Key IDs are then distinct, no longer rising" (T-04).
-use Rattle.std.specs.Prelude.{ℕ, ◌-◌, Bool, true, false, cond, not, ◌&&◌, List, [], ◌∷◌, ◌++◌, map, leb, eqb, length, take, replicate}
+use Rattle.std.specs.Prelude.{ℕ, ◌-◌, Bool, true, cond, not, ◌&&◌, List, [], ◌∷◌, ◌++◌, map, leb, eqb, length, take, replicate, Option, Some, None}
 use Rattle.lists.specs.Lists.{all, any}
 use Rattle.state_keys.specs.Limits.{Limits}
 use Rattle.state_keys.specs.Algorithms.{is_wrapping_size}
 use Rattle.state_keys.specs.Kinds.{wrapping_of}
-use Rattle.state_keys.specs.declared.kinds.MadeWrapping.{MadeWrapping}
+use Rattle.state_keys.specs.declared.kinds.WrappingKey.{WrappingKey}
 use Rattle.state.specs.declared.held.HeldKey.{HeldKey}
 use Rattle.state.specs.declared.held.Held.{Held}
 
@@ -43,14 +43,14 @@ unfoldable pub held_formed : Limits → Held → Bool
 held_formed limits h = leb h.count limits.held_keys && (all key_formed (keys_of h) && distinct (ids_of (keys_of h)))
 
 -- the answer where no key is found
-abbrev pub without_key : MadeWrapping
-without_key = record { fits = false; key = wrapping_of [] }
+abbrev pub without_key : Option WrappingKey
+without_key = None
 
 -- the first key of a list with the Key ID id, or none
-unfoldable pub key_with : ℕ → List HeldKey → MadeWrapping
+unfoldable pub key_with : ℕ → List HeldKey → Option WrappingKey
 key_with id [] = without_key
-key_with id (k ∷ l) = cond (eqb k.id id) (record { fits = true; key = k.key }) (key_with id l)
+key_with id (k ∷ l) = cond (eqb k.id id) (Some k.key) (key_with id l)
 
 -- the same in the held list; one whose count is over the limit has none
-unfoldable pub held_key : Limits → ℕ → Held → MadeWrapping
+unfoldable pub held_key : Limits → ℕ → Held → Option WrappingKey
 held_key limits id h = cond (leb h.count limits.held_keys) (key_with id (keys_of h)) without_key

@@ -1,9 +1,9 @@
 -- "What a member is": its table, its held list and the least acceptable Message ID; and whether "their profile is switched on for a member
 -- at creation" (document 02, T-11).
-use Rattle.std.specs.Prelude.{ℕ, Bool, cond, ◌&&◌, List, []}
+use Rattle.std.specs.Prelude.{ℕ, Bool, cond, ◌&&◌, List, [], Option}
 use Rattle.state_keys.specs.Limits.{Limits}
 use Rattle.state_table.specs.declared.Table.{Table}
-use Rattle.state_table.specs.declared.SaFound.{SaFound}
+use Rattle.state_sa.specs.declared.entry.Sa.{Sa}
 use Rattle.state_table.specs.Table.{table_of, table_formed, swept, none, found_sa}
 use Rattle.state.specs.declared.State.{State}
 use Rattle.state.specs.declared.least.Least.TheVariants.{Id}
@@ -30,5 +30,5 @@ unfoldable pub swept_state : Limits → ℕ → State → State
 swept_state limits now s = cond (state_formed limits s) (with_table (swept limits now s.table) s) s
 
 -- "the SA with a given protocol and SPI, or none"; a value that breaks the list "answers none to every question"
-unfoldable pub asked_sa : Limits → ℕ → List ℕ → State → SaFound
+unfoldable pub asked_sa : Limits → ℕ → List ℕ → State → Option Sa
 asked_sa limits p x s = cond (state_formed limits s) (found_sa limits p x s.table) none

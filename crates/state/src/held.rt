@@ -5,19 +5,18 @@ ghost use Rattle.lists.specs.Lists.{all};
 ghost use Rattle.state.specs.Held.{blank_key, keys_of, held_of, key_formed, ids_of, has, distinct, held_formed, held_key};
 ghost use Rattle.state.specs.inner.Entering.{id_before, entered_key};
 
-use state_keys::kinds::{MadeWrapping, WrappingKey};
+use state_keys::kinds::WrappingKey;
 use state_keys::limits::HELD_KEYS;
-use state_keys::rooms::WRAPPING_KEY;
 
 // A wrapping key with its Key ID.
-#[derive(Clone, Copy)]
+#[derive(Clone, Copy, PartialEq, Eq)]
 pub struct HeldKey {
     pub id: u32,
     pub key: WrappingKey,
 }
 
 // The held list: its keys are the first `count` of `keys`.
-#[derive(Clone, Copy)]
+#[derive(Clone, Copy, PartialEq, Eq)]
 pub struct Held {
     pub keys: [HeldKey; HELD_KEYS],
     pub count: usize,
@@ -27,11 +26,10 @@ pub struct Held {
 fn blank() -> HeldKey
     ensures { result ≡ blank_key }
 {
-    let key = WrappingKey {
-        octets: [0u8; WRAPPING_KEY],
-        count: 0,
-    };
-    HeldKey { id: 0, key }
+    HeldKey {
+        id: 0,
+        key: WrappingKey::blank(),
+    }
 }
 
 impl HeldKey {
@@ -39,11 +37,8 @@ impl HeldKey {
     pub fn is_formed(self) -> bool
         ensures { result ≡ key_formed self }
     {
-        if self.id == 0 {
-            return false;
-        }
         let k = self.key;
-        WrappingKey::is_size(k.count)
+        self.id != 0 && WrappingKey::is_size(k.count)
     }
 }
 
@@ -52,41 +47,18 @@ impl HeldKey {
 fn goes_ahead(placed: bool, a: HeldKey, k: HeldKey) -> bool
     ensures { result ≡ (placed || id_before a k) }
 {
-    if placed {
-        return true;
-    }
-    a.id < k.id
+    placed || a.id < k.id
 }
 
-// Whether the Key ID `id` is none of the first `n` of `ids` from place `first` on.
-fn is_absent(ids: &[u32], n: usize, first: usize, id: u32) -> bool
-    requires { n ≤ length ids.now }
-    ensures { result ≡ not (has id (drop first (take n ids.now))) }
+// Whether none of `ids` stands twice.
+fn are_distinct(ids: &[u32]) -> bool
+    ensures { result ≡ distinct ids.now }
 {
-    let mut i = first;
-    while i < n {
-        let other = ids[i];
-        if other == id {
-            return false;
-        }
-        i += 1;
-    }
-    true
-}
-
-// Whether none of the first `n` Key IDs stands twice.
-fn are_distinct(ids: &[u32], n: usize) -> bool
-    requires { n ≤ length ids.now }
-    ensures { result ≡ distinct (take n ids.now) }
-{
-    let mut i: usize = 0;
-    while i < n {
+    for i in 0..ids.len() {
         let id = ids[i];
-        let next = i + 1;
-        if is_absent(ids, n, next, id) {} else {
+        if ids[i + 1..].contains(&id) {
             return false;
         }
-        i = next;
     }
     true
 }
@@ -108,14 +80,10 @@ impl Held {
         requires { self.count ≤ limits.held_keys }
         ensures { result ≡ all key_formed (keys_of self) }
     {
-        let n = self.count;
-        let mut i: usize = 0;
-        while i < n {
-            let k = self.keys[i];
-            if k.is_formed() {} else {
+        for k in &self.keys[..self.count] {
+            if !k.is_formed() {
                 return false;
             }
-            i += 1;
         }
         true
     }
@@ -125,13 +93,10 @@ impl Held {
         requires { self.count ≤ limits.held_keys }
         ensures { take self.count result ≡ ids_of (keys_of self) }
     {
-        let n = self.count;
         let mut ids = [0u32; HELD_KEYS];
-        let mut i: usize = 0;
-        while i < n {
+        for i in 0..self.count {
             let k = self.keys[i];
             ids[i] = k.id;
-            i += 1;
         }
         ids
     }
@@ -141,45 +106,30 @@ impl Held {
     pub fn is_formed(self) -> bool
         ensures { result ≡ held_formed limits self }
     {
-        if HELD_KEYS < self.count {
+        let n = self.count;
+        if HELD_KEYS < n {
             return false;
         }
-        if self.each_formed() {
-            let n = self.count;
-            let ids = self.ids();
-            return are_distinct(&ids, n);
+        if !self.each_formed() {
+            return false;
         }
-        false
+        let ids = self.ids();
+        are_distinct(&ids[..n])
     }
 
     // Finds the key with the Key ID `id`. In a list whose count is over the limit it finds none.
-    pub fn find(self, id: u32) -> MadeWrapping
+    pub fn find(self, id: u32) -> Option<WrappingKey>
         ensures { result ≡ held_key limits id self }
     {
-        let n = self.count;
-        let none = WrappingKey {
-            octets: [0u8; WRAPPING_KEY],
-            count: 0,
-        };
-        if HELD_KEYS < n {
-            return MadeWrapping {
-                fits: false,
-                key: none,
-            };
+        if HELD_KEYS < self.count {
+            return None;
         }
-        let mut i: usize = 0;
-        while i < n {
-            let k = self.keys[i];
+        for k in &self.keys[..self.count] {
             if k.id == id {
-                let key = k.key;
-                return MadeWrapping { fits: true, key };
+                return Some(k.key);
             }
-            i += 1;
         }
-        MadeWrapping {
-            fits: false,
-            key: none,
-        }
+        None
     }
 
     // Inserts the key `a` in its place. A full list stays as it is.
@@ -193,8 +143,7 @@ impl Held {
         let mut out = [blank(); HELD_KEYS];
         let mut carried = a;
         let mut placed = false;
-        let mut i: usize = 0;
-        while i < n {
+        for i in 0..n {
             let k = self.keys[i];
             if goes_ahead(placed, carried, k) {
                 out[i] = carried;
@@ -203,9 +152,8 @@ impl Held {
             } else {
                 out[i] = k;
             }
-            i += 1;
         }
-        out[i] = carried;
+        out[n] = carried;
         Held {
             keys: out,
             count: n + 1,

@@ -3,7 +3,8 @@ ghost use Rattle.std.specs.Prelude.{◌≡◌};
 ghost use Rattle.state.specs.Least.{acceptable, after_id};
 
 // The least acceptable Message ID, or that none is acceptable any more.
-#[derive(Clone, Copy)]
+// Kept beside Option: a `None` would read as no least Message ID, so that all are acceptable, and it is the opposite.
+#[derive(Clone, Copy, PartialEq, Eq)]
 pub enum Least {
     Id(u32),
     NoneAnyMore,

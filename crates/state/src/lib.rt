@@ -11,9 +11,10 @@ ghost use Rattle.state.specs.State.{new_state, state_formed, swept_state, asked_
 
 use held::Held;
 use least::Least;
-use state_table::{SaFound, Table};
+use state_sa::entry::Sa;
+use state_table::Table;
 
-#[derive(Clone, Copy)]
+#[derive(Clone, Copy, PartialEq, Eq)]
 pub struct State {
     pub table: Table,
     pub held: Held,
@@ -49,40 +50,30 @@ impl State {
         ensures { result ≡ state_formed limits self }
     {
         let t = self.table;
-        if t.is_formed() {
-            let h = self.held;
-            return h.is_formed();
-        }
-        false
+        let h = self.held;
+        t.is_formed() && h.is_formed()
     }
 
     // Removes the SAs that are due at `tick`. A state that is not formed stays as it is.
     pub fn sweep(self, tick: u32) -> State
         ensures { result ≡ swept_state limits tick self }
     {
-        if self.is_formed() {
-            let t = self.table;
-            let table = t.sweep(tick);
-            let held = self.held;
-            let least = self.least;
-            return State {
-                table,
-                held,
-                least,
-                profile: self.profile,
-            };
+        if !self.is_formed() {
+            return self;
         }
-        self
+        let t = self.table;
+        let table = t.sweep(tick);
+        State { table, ..self }
     }
 
     // Finds the SA with this `protocol` and `spi`. In a state that is not formed it finds none.
-    pub fn find(self, protocol: u8, spi: &[u8]) -> SaFound
+    pub fn find(self, protocol: u8, spi: &[u8]) -> Option<Sa>
         ensures { result ≡ asked_sa limits protocol spi.now self }
     {
-        if self.is_formed() {
-            let t = self.table;
-            return t.find(protocol, spi);
+        if !self.is_formed() {
+            return None;
         }
-        state_table::test::nothing()
+        let t = self.table;
+        t.find(protocol, spi)
     }
 }

@@ -3,7 +3,7 @@ use native.Mathlib.Omega.{arith}
 use native.Mathlib.Numerals.{add-one}
 use Prim.Native.Nat.{ℕ, ◌+◌, ◌≤◌, ◌<◌}
 use mathlib.Core.Path.{◌≡◌, refl, sym, ◌∙◌}
-use mathlib.Core.Bool.{Bool, true, false, not, ◌&&◌, ◌||◌, or-false, false≢true}
+use mathlib.Core.Bool.{Bool, true, false, not, ◌&&◌, ◌||◌, false≢true}
 use mathlib.Core.Logic.{◌⊎◌, inl, inr}
 use mathlib.Core.List.{List, [], ◌∷◌}
 use borrow.Author.Tests.{eq-eqb, ne_eqb, eqb-true}
@@ -11,7 +11,8 @@ use lib.Dec.{eqb}
 use lib.ListN.{length, drop, get_or, drop_of_length-le}
 use lib.Seq.{drop-cons}
 use Rattle.state_keys.specs.declared.algorithms.AlgorithmRow.{AlgorithmRow}
-use Rattle.state_keys.specs.declared.algorithms.Needed.TheVariants.{Octets, Nothing}
+use Rattle.std.specs.Prelude.{Some, None}
+use Rattle.std.specs.List.{list_any}
 use Rattle.lists.specs.Lists.{any}
 use Rattle.state_keys.specs.Algorithms.{algorithms, size_of, is_row_of, needed_in, needed_by, is_wrapping_size, is_encryption_size}
 use Rattle.state_keys.specs.Kinds.{rekey_sizes}
@@ -29,15 +30,14 @@ pub encryption-size : (n : ℕ) → is_encryption_size n ≡ among 20 28 36 n
 unfolding size_of any
 encryption-size n = refl
 
+eqb_flip : (m n : ℕ) → eqb m n ≡ eqb n m
+eqb_flip m n =
+    bool_cases (eqb m n) (λ e. e ∙ sym (eq-eqb n m (sym (eqb-true m n e))))
+    (λ e. e ∙ sym (ne_eqb n m (λ q. false≢true (sym e ∙ eq-eqb m n (sym q)))))
+
 module _ (a b c n : ℕ) where
-  pub among_first : n ≡ a → true ≡ among a b c n
-  among_first e = simp (eq-eqb n a e)
-
-  pub among_second : (n ≡ a → ⊥) → n ≡ b → true ≡ among a b c n
-  among_second f e = simp (ne_eqb n a f, eq-eqb n b e)
-
-  pub among-third : (n ≡ a → ⊥) → (n ≡ b → ⊥) → eqb n c ≡ among a b c n
-  among-third f g = simp (ne_eqb n a f, ne_eqb n b g, or-false)
+  pub among-list : list_any (λ (m : ℕ). eqb m n) (a ∷ b ∷ c ∷ []) ≡ among a b c n
+  among-list i = eqb_flip a n i || (eqb_flip b n i || (eqb_flip c n i || false))
 
   pub among-is : among a b c n ≡ true → (n ≡ a) ⊎ ((n ≡ b) ⊎ (n ≡ c))
   among-is e =
@@ -79,7 +79,7 @@ abbrev pub blank_row : AlgorithmRow
 blank_row = record { kind = 0; id = 0; bits = 0; octets = 0 }
 
 module _ (k i b : ℕ) (l : List AlgorithmRow) (j : ℕ) (d : AlgorithmRow) (h : j < length l) where
-  pub needed_here : true ≡ is_row_of k i b (get_or l j d) → needed_in k i b (drop j l) ≡ Octets (get_or l j d).octets
+  pub needed_here : true ≡ is_row_of k i b (get_or l j d) → needed_in k i b (drop j l) ≡ Some (get_or l j d).octets
   unfolding needed_in
   needed_here e = rw (drop-cons l j d, ← e)
 
@@ -87,12 +87,12 @@ module _ (k i b : ℕ) (l : List AlgorithmRow) (j : ℕ) (d : AlgorithmRow) (h :
   unfolding needed_in
   needed-next e = rw (drop-cons l j d, ← e, add-one)
 
-pub needed-end : (k i b : ℕ) (l : List AlgorithmRow) (j : ℕ) → length l ≤ j → needed_in k i b (drop j l) ≡ Nothing
+pub needed-end : (k i b : ℕ) (l : List AlgorithmRow) (j : ℕ) → length l ≤ j → needed_in k i b (drop j l) ≡ None
 unfolding needed_in
 needed-end k i b l j h = rw (drop_of_length-le l h)
 
 -- what a row needs is a size of its transform type
-needed-any : (k i b n : ℕ) (l : List AlgorithmRow) → needed_in k i b l ≡ Octets n →
+needed-any : (k i b n : ℕ) (l : List AlgorithmRow) → needed_in k i b l ≡ Some n →
     any (λ (r : AlgorithmRow). eqb r.kind k && eqb n r.octets) l ≡ true
 unfolding needed_in any is_row_of
 needed-any k i b n [] e = let z : ◌≡◌ {A = ℕ} 0 1 = cc in absurd (omega arith)
@@ -100,13 +100,13 @@ needed-any k i b n (r ∷ l) e =
     bool_cases (eqb r.kind k && (eqb r.id i && (not (eqb k 1) || eqb r.bits b)))
     (λ g.
     let p = (and_parts (eqb r.kind k) (eqb r.id i && (not (eqb k 1) || eqb r.bits b)) g).0 in
-    let q : Octets r.octets ≡ Octets n = rw g at e in
+    let q : Some r.octets ≡ Some n = rw g at e in
     let m : n ≡ r.octets = cc in
     rw (p, eq-eqb n r.octets m))
     (λ g.
     let h = needed-any k i b n l (rw g at e) in
     bool_cases (eqb r.kind k && eqb n r.octets) (λ f. rw f) (λ f. rw f h))
 
-pub needed-size : (k i b n : ℕ) → needed_by k i b ≡ Octets n → size_of k n ≡ true
+pub needed-size : (k i b n : ℕ) → needed_by k i b ≡ Some n → size_of k n ≡ true
 unfolding needed_by size_of
 needed-size k i b n e = needed-any k i b n algorithms e

@@ -1,11 +1,9 @@
 -- "The algorithm table: AES-GCM-16 (type 1, ID 20, Key Length attribute 14 in bits: 128, 192, 256) needs 20, 28, 36 octets;
 -- KW_5649_128, _192, _256 (type 13) need 16, 24, 32." The IDs of type 13 are those of RFC 9838, section 9.
-use Rattle.std.specs.Prelude.{ℕ, Bool, cond, not, ◌&&◌, ◌||◌, List, [], ◌∷◌, eqb}
+use Rattle.std.specs.Prelude.{ℕ, Bool, cond, not, ◌&&◌, ◌||◌, List, [], ◌∷◌, eqb, Option, Some, None}
 use Rattle.ikev2_numbers.specs.Codes.{transform_encr, transform_kwa}
 use Rattle.lists.specs.Lists.{any}
 use Rattle.state_keys.specs.declared.algorithms.AlgorithmRow.{AlgorithmRow}
-use Rattle.state_keys.specs.declared.algorithms.Needed.{Needed}
-use Rattle.state_keys.specs.declared.algorithms.Needed.TheVariants.{Octets, Nothing}
 
 -- transform type, transform ID, key bits, octets needed
 abbrev algorithm_row : ℕ → ℕ → ℕ → ℕ → AlgorithmRow
@@ -20,12 +18,12 @@ algorithms =
 unfoldable pub is_row_of : ℕ → ℕ → ℕ → AlgorithmRow → Bool
 is_row_of k i b r = eqb r.kind k && (eqb r.id i && (not (eqb k transform_encr) || eqb r.bits b))
 
-unfoldable pub needed_in : ℕ → ℕ → ℕ → List AlgorithmRow → Needed
-needed_in k i b [] = Nothing
-needed_in k i b (r ∷ l) = cond (is_row_of k i b r) (Octets r.octets) (needed_in k i b l)
+unfoldable pub needed_in : ℕ → ℕ → ℕ → List AlgorithmRow → Option ℕ
+needed_in k i b [] = None
+needed_in k i b (r ∷ l) = cond (is_row_of k i b r) (Some r.octets) (needed_in k i b l)
 
 -- the octets that the transform needs, if the table has it
-unfoldable pub needed_by : ℕ → ℕ → ℕ → Needed
+unfoldable pub needed_by : ℕ → ℕ → ℕ → Option ℕ
 needed_by k i b = needed_in k i b algorithms
 
 -- some row of transform type k needs n octets

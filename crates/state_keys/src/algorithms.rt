@@ -14,13 +14,6 @@ pub struct AlgorithmRow {
     pub octets: usize,
 }
 
-// The octets that a transform needs, or `Nothing` for a transform that is not in the table.
-#[derive(Clone, Copy)]
-pub enum Needed {
-    Octets(usize),
-    Nothing,
-}
-
 // The table: AES-GCM-16 by its Key Length, with 4 octets of salt; KW_5649_128, _192 and _256.
 const ROWS: [AlgorithmRow; 6] = [
     AlgorithmRow {
@@ -65,30 +58,21 @@ const ROWS: [AlgorithmRow; 6] = [
 fn is_row(r: AlgorithmRow, kind: u8, id: u16, bits: u16) -> bool
     ensures { result ≡ is_row_of kind id bits r }
 {
-    if r.kind != kind {
+    if r.kind != kind || r.id != id {
         return false;
     }
-    if r.id != id {
-        return false;
-    }
-    if kind != ENCRYPTION {
-        return true;
-    }
-    r.bits == bits
+    kind != ENCRYPTION || r.bits == bits
 }
 
-// Looks up the octets that the transform with type `kind`, ID `id` and Key Length `bits` needs. The Key Length is read in type 1 alone.
-pub fn octets_needed(kind: u8, id: u16, bits: u16) -> Needed
+// Looks up the octets that the transform with type `kind`, ID `id` and Key Length `bits` needs, if it is in the table. The Key Length is
+// read in type 1 alone.
+pub fn octets_needed(kind: u8, id: u16, bits: u16) -> Option<usize>
     ensures { result ≡ needed_by kind id bits }
 {
-    let rows = ROWS;
-    let mut i: usize = 0;
-    while i < 6 {
-        let r = rows[i];
+    for r in ROWS {
         if is_row(r, kind, id, bits) {
-            return Needed::Octets(r.octets);
+            return Some(r.octets);
         }
-        i += 1;
     }
-    Needed::Nothing
+    None
 }

@@ -1,13 +1,15 @@
 // The kinds of key. Each carries the octet counts of its kind as constants and has a constructor, so that a key of one kind is never taken
 // for one of another because their sizes agree. Octets past a key's count are 0 in every value that a constructor makes.
-ghost use Rattle.std.specs.Prelude.{◌≡◌};
+// Kept as types of their own: one type over a kind and a size would have to carry both at every use, and what they share is `padded`.
+ghost use Rattle.std.specs.Prelude.{◌≡◌, ◌≤◌, [], length};
 ghost use Rattle.state_keys.specs.Algorithms.{is_wrapping_size, is_encryption_size};
-ghost use Rattle.state_keys.specs.Kinds.{wrapping_key, esp_key, encryption_key, rekey_sizes, rekey_key, key_wrap_part, encryption_part};
+ghost use Rattle.state_keys.specs.Kinds.{padded, wrapping_of, wrapping_key, esp_key, encryption_key, rekey_sizes, rekey_key};
+ghost use Rattle.state_keys.specs.Kinds.{key_wrap_part, encryption_part};
 
 use crate::rooms::{ENCRYPTION_KEY, SA_OCTETS, WRAPPING_KEY};
 
 // A wrapping key: 16, 24 or 32 octets.
-#[derive(Clone, Copy, PartialEq)]
+#[derive(Clone, Copy, PartialEq, Eq)]
 pub struct WrappingKey {
     pub octets: [u8; WRAPPING_KEY],
     pub count: usize,
@@ -35,32 +37,14 @@ pub struct RekeyKey {
     pub wrapping: usize,
 }
 
-// The answer of `WrappingKey::new`: whether the octets fit this kind, and the key, blank where they do not.
-#[derive(Clone, Copy)]
-pub struct MadeWrapping {
-    pub fits: bool,
-    pub key: WrappingKey,
-}
-
-// The answer of `EspKey::new`, likewise.
-#[derive(Clone, Copy)]
-pub struct MadeEsp {
-    pub fits: bool,
-    pub key: EspKey,
-}
-
-// The answer of `EncryptionKey::new`, likewise.
-#[derive(Clone, Copy)]
-pub struct MadeEncryption {
-    pub fits: bool,
-    pub key: EncryptionKey,
-}
-
-// The answer of `RekeyKey::new`, likewise.
-#[derive(Clone, Copy)]
-pub struct MadeRekey {
-    pub fits: bool,
-    pub key: RekeyKey,
+// Puts `octets` at the front of `N` octets, with blanks behind them.
+pub fn padded<const N: usize>(octets: &[u8]) -> [u8; N]
+    requires { length octets.now ≤ N }
+    ensures { result ≡ padded N octets.now }
+{
+    let mut out = [0u8; N];
+    out[..octets.len()].copy_from_slice(octets);
+    out
 }
 
 impl WrappingKey {
@@ -75,34 +59,36 @@ impl WrappingKey {
     pub fn is_size(n: usize) -> bool
         ensures { result ≡ is_wrapping_size n }
     {
-        if n == WrappingKey::KW_128 {
-            return true;
-        }
-        if n == WrappingKey::KW_192 {
-            return true;
-        }
-        n == WrappingKey::KW_256
+        [
+            WrappingKey::KW_128,
+            WrappingKey::KW_192,
+            WrappingKey::KW_256,
+        ]
+        .contains(&n)
     }
 
-    // Makes a wrapping key from `octets`.
-    pub fn new(octets: &[u8]) -> MadeWrapping
+    // Makes a wrapping key from `octets`, if it can have as many.
+    pub fn new(octets: &[u8]) -> Option<WrappingKey>
         ensures { result ≡ wrapping_key octets.now }
     {
-        let n = octets.len();
-        let mut out = [0u8; WRAPPING_KEY];
-        if WrappingKey::is_size(n) {
-            octets::copying::copy(octets, &mut out);
-            let key = WrappingKey {
-                octets: out,
-                count: n,
-            };
-            return MadeWrapping { fits: true, key };
+        let count = octets.len();
+        if !WrappingKey::is_size(count) {
+            return None;
         }
-        let key = WrappingKey {
-            octets: out,
+        Some(WrappingKey {
+            octets: padded(octets),
+            count,
+        })
+    }
+
+    // Makes the value of an unused place: a key of no octets.
+    pub fn blank() -> WrappingKey
+        ensures { result ≡ wrapping_of [] }
+    {
+        WrappingKey {
+            octets: [0u8; WRAPPING_KEY],
             count: 0,
-        };
-        MadeWrapping { fits: false, key }
+        }
     }
 }
 
@@ -118,34 +104,26 @@ impl EncryptionKey {
     pub fn is_size(n: usize) -> bool
         ensures { result ≡ is_encryption_size n }
     {
-        if n == EncryptionKey::GCM_128 {
-            return true;
-        }
-        if n == EncryptionKey::GCM_192 {
-            return true;
-        }
-        n == EncryptionKey::GCM_256
+        [
+            EncryptionKey::GCM_128,
+            EncryptionKey::GCM_192,
+            EncryptionKey::GCM_256,
+        ]
+        .contains(&n)
     }
 
-    // Makes an encryption part from `octets`.
-    pub fn new(octets: &[u8]) -> MadeEncryption
+    // Makes an encryption part from `octets`, if it can have as many.
+    pub fn new(octets: &[u8]) -> Option<EncryptionKey>
         ensures { result ≡ encryption_key octets.now }
     {
-        let n = octets.len();
-        let mut out = [0u8; ENCRYPTION_KEY];
-        if EncryptionKey::is_size(n) {
-            octets::copying::copy(octets, &mut out);
-            let key = EncryptionKey {
-                octets: out,
-                count: n,
-            };
-            return MadeEncryption { fits: true, key };
+        let count = octets.len();
+        if !EncryptionKey::is_size(count) {
+            return None;
         }
-        let key = EncryptionKey {
-            octets: out,
-            count: 0,
-        };
-        MadeEncryption { fits: false, key }
+        Some(EncryptionKey {
+            octets: padded(octets),
+            count,
+        })
     }
 }
 
@@ -161,34 +139,21 @@ impl EspKey {
     pub fn is_size(n: usize) -> bool
         ensures { result ≡ is_encryption_size n }
     {
-        if n == EspKey::GCM_128 {
-            return true;
-        }
-        if n == EspKey::GCM_192 {
-            return true;
-        }
-        n == EspKey::GCM_256
+        [EspKey::GCM_128, EspKey::GCM_192, EspKey::GCM_256].contains(&n)
     }
 
-    // Makes the keying octets of an ESP SA from `octets`.
-    pub fn new(octets: &[u8]) -> MadeEsp
+    // Makes the keying octets of an ESP SA from `octets`, if it can have as many.
+    pub fn new(octets: &[u8]) -> Option<EspKey>
         ensures { result ≡ esp_key octets.now }
     {
-        let n = octets.len();
-        let mut out = [0u8; ENCRYPTION_KEY];
-        if EspKey::is_size(n) {
-            octets::copying::copy(octets, &mut out);
-            let key = EspKey {
-                octets: out,
-                count: n,
-            };
-            return MadeEsp { fits: true, key };
+        let count = octets.len();
+        if !EspKey::is_size(count) {
+            return None;
         }
-        let key = EspKey {
-            octets: out,
-            count: 0,
-        };
-        MadeEsp { fits: false, key }
+        Some(EspKey {
+            octets: padded(octets),
+            count,
+        })
     }
 }
 
@@ -200,58 +165,48 @@ impl RekeyKey {
     pub fn are_sizes(encryption: usize, wrapping: usize) -> bool
         ensures { result ≡ rekey_sizes encryption wrapping }
     {
-        if EncryptionKey::is_size(encryption) {
-            return WrappingKey::is_size(wrapping);
-        }
-        false
+        EncryptionKey::is_size(encryption) && WrappingKey::is_size(wrapping)
     }
 
     // Makes the keying octets of a Rekey SA from `octets`: GSK_e of `encryption` octets, then GSK_w of `wrapping` octets.
-    pub fn new(octets: &[u8], encryption: usize, wrapping: usize) -> MadeRekey
+    pub fn new(octets: &[u8], encryption: usize, wrapping: usize) -> Option<RekeyKey>
         ensures { result ≡ rekey_key octets.now encryption wrapping }
     {
-        let mut out = [0u8; RekeyKey::MOST];
-        if RekeyKey::are_sizes(encryption, wrapping) {
-            if octets.len() == encryption + wrapping {
-                octets::copying::copy(octets, &mut out);
-                let key = RekeyKey {
-                    octets: out,
-                    encryption,
-                    wrapping,
-                };
-                return MadeRekey { fits: true, key };
-            }
+        if !RekeyKey::are_sizes(encryption, wrapping) {
+            return None;
         }
-        let key = RekeyKey {
-            octets: [0u8; RekeyKey::MOST],
-            encryption: 0,
-            wrapping: 0,
-        };
-        MadeRekey { fits: false, key }
+        if octets.len() != encryption + wrapping {
+            return None;
+        }
+        Some(RekeyKey {
+            octets: padded(octets),
+            encryption,
+            wrapping,
+        })
     }
 
     // Cuts out GSK_e (RFC 9838, section 3.4), the first octets: the key and salt under which the Rekey SA's messages are encrypted.
-    pub fn encryption_part(self) -> MadeEncryption
+    pub fn encryption_part(self) -> Option<EncryptionKey>
         ensures { result ≡ encryption_part self }
     {
         let e = self.encryption;
-        let o = self.octets;
-        if RekeyKey::are_sizes(e, self.wrapping) {
-            return EncryptionKey::new(&o[0..e]);
+        if !RekeyKey::are_sizes(e, self.wrapping) {
+            return None;
         }
-        EncryptionKey::new(&o[0..0])
+        let o = self.octets;
+        EncryptionKey::new(&o[..e])
     }
 
     // Cuts out GSK_w (RFC 9838, section 3.4), the last octets: the default key of the Rekey SA, under which keys are wrapped.
-    pub fn key_wrap_part(self) -> MadeWrapping
+    pub fn key_wrap_part(self) -> Option<WrappingKey>
         ensures { result ≡ key_wrap_part self }
     {
         let e = self.encryption;
         let w = self.wrapping;
-        let o = self.octets;
-        if RekeyKey::are_sizes(e, w) {
-            return WrappingKey::new(&o[e..e + w]);
+        if !RekeyKey::are_sizes(e, w) {
+            return None;
         }
-        WrappingKey::new(&o[0..0])
+        let o = self.octets;
+        WrappingKey::new(&o[e..e + w])
     }
 }

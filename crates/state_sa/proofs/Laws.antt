@@ -1,19 +1,15 @@
 -- What the code of an SA finds is what the definitions say.
-use Rattle.std.proofs.Common.{◌≡◌, ℕ, ◌+◌, ◌-◌, ◌*◌, ◌%◌, ◌^◌, ◌<◌, ◌≤◌, Bool, true, false, eqb, leb, List, ◌++◌, length, take, drop, replicate, sym, ap, ◌∙◌, arith, le-ltb, eq-eqb, ne_eqb}
+use Rattle.std.proofs.Common.{◌≡◌, ℕ, ◌+◌, ◌-◌, ◌*◌, ◌%◌, ◌^◌, ◌<◌, ◌≤◌, Bool, true, false, eqb, leb, List, take, sym, ap, ◌∙◌, arith, le-ltb, eq-eqb, ne_eqb}
 use Rattle.octets.specs.Compare.{less, same}
-use Rattle.state_keys.specs.Kinds.{padded, rekey_sizes}
-use Rattle.state_keys.specs.declared.kinds.EspKey.{EspKey}
-use Rattle.state_keys.specs.declared.kinds.RekeyKey.{RekeyKey}
-use Rattle.lists.proofs.Parts.{copied}
+use Rattle.state_keys.specs.Kinds.{rekey_sizes}
 use Rattle.state_sa.specs.declared.entry.Condition.{Condition}
 use Rattle.state_sa.specs.declared.entry.Condition.TheVariants.{Live, Retiring}
-use Rattle.state_sa.specs.declared.entry.Lifetime.{Lifetime}
 use Rattle.state_sa.specs.declared.entry.Lifetime.TheVariants.{Unlimited, Limited}
 use Rattle.state_sa.specs.declared.entry.Sa.{Sa}
 use Rattle.state_sa.specs.Clock.{elapsed_at_least}
 use Rattle.state_sa.specs.Entry.{esp_protocol, rekey_protocol, sa_spi_size, sa_spi, sa_before, named, sa_sized, live_rekey, due_by, ran_out}
 use Rattle.state_sa.specs.Entry.{retired_by, retired}
-use Rattle.state_sa.specs.Entry.{with_condition, make_sa, esp_sa, rekey_sa}
+use Rattle.state_sa.specs.Entry.{with_condition}
 
 -- ---- the clock
 -- the wrapping difference is the one number below 2^32 that makes up the tick
@@ -79,31 +75,6 @@ before-spi a b n m r g h e f p =
     (p ∙ ap (λ (k : ℕ). less (take k a.spi) (take (m - 0) b.spi)) x ∙ ap (λ (k : ℕ). less (sa_spi a) (take k b.spi)) y)
 
 pub named-spi : (s : Sa) (p n : ℕ) (x : List ℕ) (r : Bool) → s.protocol ≡ p → n ≡ sa_spi_size s.protocol →
-    r ≡ same (take (n - 0) s.spi) x → r ≡ named p x s
+    r ≡ same (take n s.spi) x → r ≡ named p x s
 unfolding named
-named-spi s p n x r e f q =
-    let y : n - 0 ≡ sa_spi_size s.protocol = omega arith in
-    rw (eq-eqb s.protocol p e) (q ∙ ap (λ (k : ℕ). same (take k s.spi) x) y)
-
--- ---- what is made
--- octets x copied to the front of n blanks
-abbrev Copied : ℕ → List ℕ → List ℕ → Type 0
-Copied n x out = out ≡ take (length x) x ++ drop (length x) (replicate n 0)
-
-pub esp-made : (x name octets : List ℕ) (k : EspKey) → Copied 16 x name → Copied 68 (take (k.count - 0) k.octets) octets →
-    (t : Lifetime) → make_sa esp_protocol name octets k.count 0 0 Live t ≡ esp_sa x k t
-unfolding esp_sa
-esp-made x name octets k f g t =
-    let e : k.count - 0 ≡ k.count = omega arith in
-    let p : name ≡ padded 16 x = copied 16 x name f in
-    let q : octets ≡ padded 68 (take k.count k.octets) =
-    copied 68 (take (k.count - 0) k.octets) octets g ∙ ap (λ (m : ℕ). padded 68 (take m k.octets)) e in
-    λ i. make_sa esp_protocol (p i) (q i) k.count 0 0 Live t
-
-pub rekey-made : (x name : List ℕ) (k : RekeyKey) → Copied 16 x name →
-    (t : Lifetime) →
-    make_sa rekey_protocol name k.octets (k.encryption + k.wrapping) k.encryption k.wrapping Live t ≡ rekey_sa x k t
-unfolding rekey_sa
-rekey-made x name k f t =
-    let p : name ≡ padded 16 x = copied 16 x name f in
-    λ i. make_sa rekey_protocol (p i) k.octets (k.encryption + k.wrapping) k.encryption k.wrapping Live t
+named-spi s p n x r e f q = rw (eq-eqb s.protocol p e) (q ∙ ap (λ (k : ℕ). same (take k s.spi) x) f)

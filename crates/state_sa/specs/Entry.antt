@@ -111,6 +111,10 @@ esp_sa x k t = make_sa esp_protocol (padded spi_room x) (padded sa_room (take k.
 unfoldable pub rekey_sa : List ℕ → RekeyKey → Lifetime → Sa
 rekey_sa x k t = make_sa rekey_protocol (padded spi_room x) k.octets (k.encryption + k.wrapping) k.encryption k.wrapping Live t
 
+-- the keying octets of a Rekey SA with the octet counts of their two parts
+abbrev pub keying_of : Sa → RekeyKey
+keying_of s = record { octets = s.octets; encryption = s.encryption; wrapping = s.wrapping }
+
 -- the value of an unused place of the table
 abbrev pub blank_sa : Sa
 blank_sa = make_sa 0 (padded spi_room []) (padded sa_room []) 0 0 0 Live Unlimited

@@ -6,10 +6,10 @@ ghost use Rattle.state_keys.specs.Rooms.{encryption_key_room};
 ghost use Rattle.state_keys.specs.Kinds.{rekey_sizes};
 ghost use Rattle.state_sa.specs.Entry.{make_sa, blank_sa, sa_spi_size, sa_before, named, sa_sized, fit_lifetime, sa_formed, live_rekey, due_by};
 ghost use Rattle.state_sa.specs.Entry.{ran_out, due};
-ghost use Rattle.state_sa.specs.Entry.{retired, esp_sa, rekey_sa};
+ghost use Rattle.state_sa.specs.Entry.{retired, esp_sa, rekey_sa, keying_of};
 
 use ikev2_numbers::{DATA_SPI, REKEY_SPI};
-use state_keys::kinds::{EspKey, RekeyKey};
+use state_keys::kinds::{EspKey, RekeyKey, padded};
 use state_keys::rooms::{SA_OCTETS, SA_SPI};
 
 // The protocols of the SAs in the table: ESP, and GIKE_UPDATE for a Rekey SA.
@@ -18,14 +18,16 @@ pub const ESP: u8 = ikev2_numbers::ESP as u8;
 pub const REKEY: u8 = ikev2_numbers::GIKE_UPDATE as u8;
 
 // The condition of an SA: live, or retiring from the tick `start` on with a delay in seconds.
-#[derive(Clone, Copy)]
+// Kept beside Option: a `None` would not say that the SA is live.
+#[derive(Clone, Copy, PartialEq, Eq)]
 pub enum Condition {
     Live,
     Retiring { start: u32, delay: u16 },
 }
 
 // The lifetime of an SA: none, or `seconds` from the tick `start` on.
-#[derive(Clone, Copy)]
+// Kept beside Option: a `None` here would read as a lifetime of nothing, and it is the one that never ends.
+#[derive(Clone, Copy, PartialEq, Eq)]
 pub enum Lifetime {
     Unlimited,
     Limited { start: u32, seconds: u32 },
@@ -35,7 +37,7 @@ pub enum Lifetime {
 pub const MOST_SECONDS: u32 = 2000000;
 
 // An SA. Of `octets` the first `count` are its keying octets; in a Rekey SA these are a part of `encryption` octets and one of `wrapping`.
-#[derive(Clone, Copy)]
+#[derive(Clone, Copy, PartialEq, Eq)]
 pub struct Sa {
     pub protocol: u8,
     pub spi: [u8; SA_SPI],
@@ -61,45 +63,20 @@ pub fn spi_size(protocol: u8) -> usize
 }
 
 impl Sa {
-    // Builds an SA from its parts: the one place where an SA is written out.
-    fn built(
-        protocol: u8,
-        spi: [u8; SA_SPI],
-        octets: [u8; SA_OCTETS],
-        count: usize,
-        encryption: usize,
-        wrapping: usize,
-        condition: Condition,
-        lifetime: Lifetime,
-    ) -> Sa
-        ensures { result ≡ make_sa protocol spi octets count encryption wrapping condition lifetime }
-    {
-        Sa {
-            protocol,
-            spi,
-            octets,
-            count,
-            encryption,
-            wrapping,
-            condition,
-            lifetime,
-        }
-    }
-
     // Makes the value of an unused place of the table.
     pub fn blank() -> Sa
         ensures { result ≡ blank_sa }
     {
-        Sa::built(
-            0,
-            [0u8; SA_SPI],
-            [0u8; SA_OCTETS],
-            0,
-            0,
-            0,
-            Condition::Live,
-            Lifetime::Unlimited,
-        )
+        Sa {
+            protocol: 0,
+            spi: [0u8; SA_SPI],
+            octets: [0u8; SA_OCTETS],
+            count: 0,
+            encryption: 0,
+            wrapping: 0,
+            condition: Condition::Live,
+            lifetime: Lifetime::Unlimited,
+        }
     }
 
     // Makes a live ESP SA with the SPI `spi`, the keying octets of `key` and `lifetime`.
@@ -107,13 +84,15 @@ impl Sa {
         requires { (length spi.now ≡ 4) × (key.count ≤ encryption_key_room) }
         ensures { result ≡ esp_sa spi.now key lifetime }
     {
-        let n = key.count;
-        let o = key.octets;
-        let mut name = [0u8; SA_SPI];
-        octets::copying::copy(spi, &mut name);
-        let mut octets = [0u8; SA_OCTETS];
-        octets::copying::copy(&o[0..n], &mut octets);
-        Sa::built(ESP, name, octets, n, 0, 0, Condition::Live, lifetime)
+        let count = key.count;
+        Sa {
+            protocol: ESP,
+            spi: padded(spi),
+            octets: padded(&key.octets[..count]),
+            count,
+            lifetime,
+            ..Sa::blank()
+        }
     }
 
     // Makes a live Rekey SA with the SPI `spi`, the keying octets of `key` and `lifetime`.
@@ -121,30 +100,31 @@ impl Sa {
         requires { (length spi.now ≡ 16) × (rekey_sizes key.encryption key.wrapping ≡ true) }
         ensures { result ≡ rekey_sa spi.now key lifetime }
     {
-        let e = key.encryption;
-        let w = key.wrapping;
-        let o = key.octets;
-        let mut name = [0u8; SA_SPI];
-        octets::copying::copy(spi, &mut name);
-        Sa::built(REKEY, name, o, e + w, e, w, Condition::Live, lifetime)
+        let octets = key.octets;
+        Sa {
+            protocol: REKEY,
+            spi: padded(spi),
+            octets,
+            count: key.encryption + key.wrapping,
+            encryption: key.encryption,
+            wrapping: key.wrapping,
+            lifetime,
+            ..Sa::blank()
+        }
     }
 
     // Whether the SA is due at the tick `now`: its delay or its lifetime has passed.
     pub fn due(self, now: u32) -> bool
         ensures { result ≡ due now self }
     {
-        if self.delay_passed(now) {
-            return true;
-        }
-        self.has_run_out(now)
+        self.delay_passed(now) || self.has_run_out(now)
     }
 
     // Whether the SA is retiring and its delay has passed at the tick `now`.
     fn delay_passed(self, now: u32) -> bool
         ensures { result ≡ due_by now self.condition }
     {
-        let c = self.condition;
-        match c {
+        match self.condition {
             Condition::Live => false,
             Condition::Retiring { start, delay } => crate::clock::elapsed_at_least(
                 now,
@@ -158,8 +138,7 @@ impl Sa {
     fn has_run_out(self, now: u32) -> bool
         ensures { result ≡ ran_out now self.lifetime }
     {
-        let l = self.lifetime;
-        match l {
+        match self.lifetime {
             Lifetime::Unlimited => false,
             Lifetime::Limited { start, seconds } => crate::clock::elapsed_at_least(
                 now, start, seconds,
@@ -171,25 +150,12 @@ impl Sa {
     pub fn retire(self, now: u32, delay: u16) -> Sa
         ensures { result ≡ retired now delay self }
     {
-        let c = self.condition;
-        match c {
+        match self.condition {
             Condition::Live => {
-                let spi = self.spi;
-                let octets = self.octets;
-                let next = Condition::Retiring { start: now, delay };
-                let lifetime = self.lifetime;
-                Sa::built(
-                    self.protocol,
-                    spi,
-                    octets,
-                    self.count,
-                    self.encryption,
-                    self.wrapping,
-                    next,
-                    lifetime,
-                )
+                let condition = Condition::Retiring { start: now, delay };
+                Sa { condition, ..self }
             }
-            Condition::Retiring { start: _, delay: _ } => self,
+            Condition::Retiring { .. } => self,
         }
     }
 
@@ -214,30 +180,22 @@ impl Sa {
     pub fn is_named(self, protocol: u8, spi: &[u8]) -> bool
         ensures { result ≡ named protocol spi.now self }
     {
-        if self.protocol != protocol {
-            return false;
-        }
-        let x = self.spi;
         let n = spi_size(self.protocol);
-        octets::compare::same(&x[0..n], spi)
+        self.protocol == protocol && octets::compare::same(&self.spi[..n], spi)
     }
 
     // Whether the SA can stand in the table: its protocol, octet counts and lifetime are allowed.
     pub fn is_formed(self) -> bool
         ensures { result ≡ sa_formed self }
     {
-        if self.is_sized() {
-            return self.fit_lifetime();
-        }
-        false
+        self.is_sized() && self.fit_lifetime()
     }
 
     // Whether the lifetime, if any, has at most `MOST_SECONDS`.
     fn fit_lifetime(self) -> bool
         ensures { result ≡ fit_lifetime self.lifetime }
     {
-        let l = self.lifetime;
-        match l {
+        match self.lifetime {
             Lifetime::Unlimited => true,
             Lifetime::Limited { start: _, seconds } => seconds <= MOST_SECONDS,
         }
@@ -250,28 +208,30 @@ impl Sa {
         if self.protocol == ESP {
             return EspKey::is_size(self.count);
         }
-        if self.protocol != REKEY {
-            return false;
-        }
         let e = self.encryption;
         let w = self.wrapping;
-        if RekeyKey::are_sizes(e, w) {
-            return self.count == e + w;
+        if self.protocol != REKEY || !RekeyKey::are_sizes(e, w) {
+            return false;
         }
-        false
+        self.count == e + w
+    }
+
+    // Answers the keying octets of a Rekey SA with the octet counts of their two parts.
+    pub fn rekey_key(self) -> RekeyKey
+        ensures { result ≡ keying_of self }
+    {
+        let octets = self.octets;
+        RekeyKey {
+            octets,
+            encryption: self.encryption,
+            wrapping: self.wrapping,
+        }
     }
 
     // Whether the SA is a live Rekey SA.
     pub fn is_live_rekey(self) -> bool
         ensures { result ≡ live_rekey self }
     {
-        if self.protocol != REKEY {
-            return false;
-        }
-        let c = self.condition;
-        match c {
-            Condition::Live => true,
-            Condition::Retiring { start: _, delay: _ } => false,
-        }
+        self.protocol == REKEY && matches!(self.condition, Condition::Live)
     }
 }

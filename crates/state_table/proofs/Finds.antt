@@ -14,7 +14,8 @@ use Rattle.state_sa.specs.Entry.{sa_spi, sa_before, named, live_rekey}
 use Rattle.state_sa.specs.declared.entry.Sa.{Sa}
 use Rattle.state_sa.proofs.Order.{before-trans, before-irrefl, same-not-before, named-is}
 use Rattle.state_table.specs.declared.Table.{Table}
-use Rattle.state_table.specs.declared.SaFound.{SaFound}
+use Rattle.std.specs.Prelude.{Some}
+use Rattle.std.proofs.lemmas.Option.{none-some, same_Some}
 use Rattle.state_table.specs.Table.{sas_of, table_formed, none, the_one, found_sa, found_rekey}
 use Rattle.state_table.proofs.Laws.{found_in}
 use Rattle.state_table.proofs.Kept.{formed-count, formed-fit}
@@ -37,7 +38,7 @@ module _ (p : Sa → Bool) where
       (⊎_elim (λ q. absurd (false≢true (sym g ∙ ap p (sym q) ∙ e))) (λ q. count-some s l q e) (Memᴰ.cases_cons m)))
 
   -- where at most one of the list passes, a member that does is the one found
-  pub one_found : (s : Sa) (l : List Sa) → count p l ≤ 1 → Memᴰ s l → p s ≡ true → the_one p l ≡ record { found = true; sa = s }
+  pub one_found : (s : Sa) (l : List Sa) → count p l ≤ 1 → Memᴰ s l → p s ≡ true → the_one p l ≡ Some s
   unfolding count the_one
   one_found s [] c m e = absurd (Memᴰ.not-nil m)
   one_found s (a ∷ l) c m e =
@@ -45,7 +46,7 @@ module _ (p : Sa → Bool) where
       (λ g.
       let k : count p l + 1 ≤ 1 = rw g at c in
       rw g
-      (⊎_elim (λ q. ap (λ (x : Sa). record { found = true; sa = x }) (sym q))
+      (⊎_elim (λ q. ap Some (sym q))
       (λ q. let h = count-some s l q e in absurd (omega arith)) (Memᴰ.cases_cons m)))
       (λ g.
       let k : count p l ≤ 1 = rw g at c in
@@ -53,13 +54,13 @@ module _ (p : Sa → Bool) where
       (⊎_elim (λ q. absurd (false≢true (sym g ∙ ap p (sym q) ∙ e))) (λ q. one_found s l k q e) (Memᴰ.cases_cons m)))
 
   -- what is found is a member that passes
-  pub found-passes : (s : Sa) (l : List Sa) → the_one p l ≡ record { found = true; sa = s } → Memᴰ s l × (p s ≡ true)
+  pub found-passes : (s : Sa) (l : List Sa) → the_one p l ≡ Some s → Memᴰ s l × (p s ≡ true)
   unfolding the_one
-  found-passes s [] e = absurd (false≢true (ap (λ (f : SaFound). f.found) e))
+  found-passes s [] e = absurd (none-some s e)
   found-passes s (a ∷ l) e =
       bool_cases (p a)
       (λ g.
-      let q : a ≡ s = ap (λ (f : SaFound). f.sa) (rw g at e) in
+      let q : a ≡ s = same_Some a s (rw g at e) in
       (Memᴰ.head (sym q), ap p (sym q) ∙ g))
       (λ g. let r = found-passes s l (rw g at e) in (Memᴰ.tail r.0, r.1))
 
@@ -98,19 +99,19 @@ named-once q x (a ∷ l) r =
 module _ (limits : Limits) (t : Table) (e : table_formed limits t ≡ true) where
   -- the SA with a protocol and SPI is found exactly where it stands in the table
   pub sa-found : (q : ℕ) (x : List ℕ) (s : Sa) → Memᴰ s (sas_of t) → named q x s ≡ true →
-      found_sa limits q x t ≡ record { found = true; sa = s }
+      found_sa limits q x t ≡ Some s
   unfolding found_sa
   sa-found q x s m n =
       found_in limits (named q x) t (formed-count limits t e)
       ∙ one_found (named q x) s (sas_of t) (named-once q x (sas_of t) (formed-fit limits t e).rises) m n
 
-  pub found-sa : (q : ℕ) (x : List ℕ) (s : Sa) → found_sa limits q x t ≡ record { found = true; sa = s } →
+  pub found-sa : (q : ℕ) (x : List ℕ) (s : Sa) → found_sa limits q x t ≡ Some s →
       Memᴰ s (sas_of t) × (named q x s ≡ true)
   unfolding found_sa
   found-sa q x s f = found-passes (named q x) s (sas_of t) (sym (found_in limits (named q x) t (formed-count limits t e)) ∙ f)
 
   -- so is the live Rekey SA
-  pub rekey-found : (s : Sa) → Memᴰ s (sas_of t) → live_rekey s ≡ true → found_rekey limits t ≡ record { found = true; sa = s }
+  pub rekey-found : (s : Sa) → Memᴰ s (sas_of t) → live_rekey s ≡ true → found_rekey limits t ≡ Some s
   unfolding found_rekey
   rekey-found s m n =
       found_in limits live_rekey t (formed-count limits t e) ∙ one_found live_rekey s (sas_of t) (formed-fit limits t e).one m n

@@ -1,17 +1,19 @@
 -- What the loops over a table find and make is what the definitions say.
 use native.Mathlib.Omega.{arith}
-use Prim.Native.Nat.{ℕ, ◌+◌, ◌-◌, ◌≤◌, ◌<◌}
+use Prim.Native.Nat.{ℕ, suc, ◌+◌, ◌-◌, ◌≤◌, ◌<◌}
 use mathlib.Core.Path.{◌≡◌, refl, ap, sym, ◌∙◌}
 use mathlib.Core.Bool.{Bool, true, false, cond}
 use mathlib.Core.List.{List, [], ◌∷◌, ◌++◌}
 use borrow.Author.Tests.{le-leb, lt-leb, ne_eqb}
 use lib.Dec.{leb, eqb, eqb-suc-zero}
-use lib.ListN.{length, take, drop, get_or, replicate}
+use lib.ListN.{length, take, drop, get_or, replicate, drop_of_length-le}
+use lib.Seq.{drop-cons}
+use native.Mathlib.Numerals.{add-one}
+use Rattle.std.specs.Prelude.{Some}
 use Rattle.state_keys.specs.Limits.{Limits}
 use Rattle.lists.specs.Lists.{all, count, keep, rising}
 use Rattle.lists.proofs.Cases.{bool_cases, lt-cases}
 use Rattle.lists.proofs.Lists.{all_yes, all-no, all_end, count_yes, count_no, count-end, rising-next, rising-end}
-use Rattle.lists.proofs.Parts.{part-cons, part_end}
 use Rattle.lists.proofs.Fill.{Filled, filled-count, filled-all}
 use Rattle.state_sa.specs.Entry.{sa_before, sa_formed, live_rekey, due, retired, blank_sa}
 use Rattle.state_sa.specs.declared.entry.Sa.{Sa}
@@ -46,19 +48,19 @@ module _ (limits : Limits) (t : Table) (f : List Sa → List Sa) where
   unfolding changed
   changed-out h = rw (lt-leb t.count limits.sas h)
 
--- ---- the search of one SA
-module _ (p : Sa → Bool) (l : List Sa) (n : ℕ) (h : n ≤ length l) (j : ℕ) where
-  pub one-here : (d : Sa) → j < n → true ≡ p (get_or l j d) → the_one p (drop j (take n l)) ≡ record { found = true; sa = get_or l j d }
+-- ---- the search of one SA: at place j of a list stands the SA that is found, or the search goes on, or it ends
+module _ (p : Sa → Bool) (l : List Sa) (j : ℕ) where
+  pub one-here : (d : Sa) → j < length l → true ≡ p (get_or l j d) → the_one p (drop j l) ≡ Some (get_or l j d)
   unfolding the_one
-  one-here d g e = rw (part-cons l n h j d g, ← e)
+  one-here d h e = rw (drop-cons l j d, ← e)
 
-  pub one-next : (d : Sa) → j < n → false ≡ p (get_or l j d) → the_one p (drop j (take n l)) ≡ the_one p (drop (j + 1) (take n l))
+  pub one-next : (d : Sa) → j < length l → false ≡ p (get_or l j d) → the_one p (drop j l) ≡ the_one p (drop (j + 1) l)
   unfolding the_one
-  one-next d g e = rw (part-cons l n h j d g, ← e)
+  one-next d h e = rw (drop-cons l j d, ← e, add-one)
 
-  pub one_end : n ≤ j → the_one p (drop j (take n l)) ≡ none
+  pub one_end : length l ≤ j → the_one p (drop j l) ≡ none
   unfolding the_one
-  one_end g = rw (part_end l n h j g)
+  one_end h = rw (drop_of_length-le l h)
 
 module _ (limits : Limits) (p : Sa → Bool) (t : Table) where
   pub found_in : t.count ≤ limits.sas → found_in_table limits p t ≡ the_one p (sas_of t)
@@ -172,6 +174,28 @@ unfolding count keep
 kept-count p [] = refl
 kept-count p (a ∷ l) =
     let h = kept-count p l in bool_cases (p a) (λ g. rw g (omega arith)) (λ g. rw g h)
+
+-- the count so far, with how many pass from place j of a list on
+module _ (p : Sa → Bool) (l : List Sa) (j k : ℕ) (c : count p l ≡ count p (drop j l) + k) where
+  pub counted-yes : (d : Sa) → j < length l → true ≡ p (get_or l j d) → count p l ≡ count p (drop (j + 1) l) + (k + 1)
+  unfolding count
+  counted-yes d h e =
+      let f : count p (drop j l) ≡ count p (drop (suc j) l) + 1 = rw (drop-cons l j d, ← e) in
+      let g : count p (drop (j + 1) l) ≡ count p (drop (suc j) l) = ap (λ (i : ℕ). count p (drop i l)) (add-one j) in
+      omega arith
+
+  pub counted-no : (d : Sa) → j < length l → false ≡ p (get_or l j d) → count p l ≡ count p (drop (j + 1) l) + k
+  unfolding count
+  counted-no d h e =
+      let f : count p (drop j l) ≡ count p (drop (suc j) l) = rw (drop-cons l j d, ← e) in
+      let g : count p (drop (j + 1) l) ≡ count p (drop (suc j) l) = ap (λ (i : ℕ). count p (drop i l)) (add-one j) in
+      omega arith
+
+  pub counted-all : length l ≤ j → k ≡ count p l
+  unfolding count
+  counted-all h =
+      let f : count p (drop j l) ≡ 0 = rw (drop_of_length-le l h) in
+      omega arith
 
 module _ (limits : Limits) (now : ℕ) (t : Table) where
   pub standing-in : (k : ℕ) → t.count ≤ limits.sas → k ≡ count (stays now) (sas_of t) → k ≡ standing_count limits now t

@@ -1,14 +1,14 @@
 -- "A table of at most 16 SAs, strictly rising by protocol (3 or 6), then SPI octets ... At most one Rekey SA is live." By document 02,
 -- T-01, at most 64.
-use Rattle.std.specs.Prelude.{ℕ, ◌-◌, Bool, true, false, cond, not, ◌&&◌, List, [], ◌∷◌, ◌++◌, leb, length, take, replicate}
+use Rattle.std.specs.Prelude.{ℕ, ◌-◌, Bool, cond, not, ◌&&◌, List, ◌++◌, leb, length, take, replicate, Option, None, option_and_then}
+use Rattle.std.specs.List.{find}
 use Rattle.lists.specs.Lists.{all, count, keep, rising}
 use Rattle.state_keys.specs.Limits.{Limits}
-use Rattle.state_keys.specs.Kinds.{wrapping_key, key_wrap_part}
-use Rattle.state_keys.specs.declared.kinds.MadeWrapping.{MadeWrapping}
-use Rattle.state_sa.specs.Entry.{sa_before, named, sa_formed, live_rekey, due, retired, blank_sa}
+use Rattle.state_keys.specs.Kinds.{key_wrap_part}
+use Rattle.state_keys.specs.declared.kinds.WrappingKey.{WrappingKey}
+use Rattle.state_sa.specs.Entry.{sa_before, named, sa_formed, live_rekey, due, retired, keying_of, blank_sa}
 use Rattle.state_sa.specs.declared.entry.Sa.{Sa}
 use Rattle.state_table.specs.declared.Table.{Table}
-use Rattle.state_table.specs.declared.SaFound.{SaFound}
 
 -- the SAs of the table: the first places, as many as its count says
 abbrev pub sas_of : Table → List Sa
@@ -46,30 +46,27 @@ unfoldable pub retired_if : (Sa → Bool) → ℕ → ℕ → Sa → Sa
 retired_if p now delay s = cond (p s) (retired now delay s) s
 
 -- the answer where no SA is found
-abbrev pub none : SaFound
-none = record { found = false; sa = blank_sa }
+abbrev pub none : Option Sa
+none = None
 
 -- the first SA of a list that passes the test p, or none
-unfoldable pub the_one : (Sa → Bool) → List Sa → SaFound
-the_one p [] = none
-the_one p (s ∷ l) = cond (p s) (record { found = true; sa = s }) (the_one p l)
+unfoldable pub the_one : (Sa → Bool) → List Sa → Option Sa
+the_one p l = find p l
 
 -- the same in a table; one whose count is over the limit has none
-unfoldable pub found_in_table : Limits → (Sa → Bool) → Table → SaFound
+unfoldable pub found_in_table : Limits → (Sa → Bool) → Table → Option Sa
 found_in_table limits p t = cond (leb t.count limits.sas) (the_one p (sas_of t)) none
 
 -- "the SA with a given protocol and SPI, or none"
-unfoldable pub found_sa : Limits → ℕ → List ℕ → Table → SaFound
+unfoldable pub found_sa : Limits → ℕ → List ℕ → Table → Option Sa
 found_sa limits p x t = found_in_table limits (named p x) t
 
 -- "the live Rekey SA", and "the default key of the live Rekey SA: the key wrap part of its keying octets"
-unfoldable pub found_rekey : Limits → Table → SaFound
+unfoldable pub found_rekey : Limits → Table → Option Sa
 found_rekey limits t = found_in_table limits live_rekey t
 
-unfoldable pub key_wrap_part_of : SaFound → MadeWrapping
-key_wrap_part_of f =
-    cond f.found
-    (key_wrap_part (record { octets = f.sa.octets; encryption = f.sa.encryption; wrapping = f.sa.wrapping })) (wrapping_key [])
+unfoldable pub key_wrap_part_of : Option Sa → Option WrappingKey
+key_wrap_part_of f = option_and_then (λ (s : Sa). key_wrap_part (keying_of s)) f
 
-unfoldable pub default_key : Limits → Table → MadeWrapping
+unfoldable pub default_key : Limits → Table → Option WrappingKey
 default_key limits t = key_wrap_part_of (found_rekey limits t)

@@ -14,10 +14,7 @@ use state_sa::entry::Sa;
 pub fn goes_ahead(placed: bool, a: Sa, s: Sa) -> bool
     ensures { result ≡ (placed || sa_before a s) }
 {
-    if placed {
-        return true;
-    }
-    a.before(s)
+    placed || a.before(s)
 }
 
 impl Table {
@@ -31,14 +28,12 @@ impl Table {
         }
         let mut out = [Sa::blank(); SAS];
         let mut k: usize = 0;
-        let mut i: usize = 0;
-        while i < n {
+        for i in 0..n {
             let s = self.sas[i];
-            if s.due(tick) {} else {
+            if !s.due(tick) {
                 out[k] = s;
                 k += 1;
             }
-            i += 1;
         }
         Table { sas: out, count: k }
     }
@@ -52,13 +47,10 @@ impl Table {
             return n;
         }
         let mut k: usize = 0;
-        let mut i: usize = 0;
-        while i < n {
-            let s = self.sas[i];
-            if s.due(tick) {} else {
+        for s in &self.sas[..n] {
+            if !s.due(tick) {
                 k += 1;
             }
-            i += 1;
         }
         k
     }

@@ -13,17 +13,10 @@ use state_keys::limits::SAS;
 use state_sa::entry::Sa;
 
 // A table: its SAs are the first `count` of `sas`.
-#[derive(Clone, Copy)]
+#[derive(Clone, Copy, PartialEq, Eq)]
 pub struct Table {
     pub sas: [Sa; SAS],
     pub count: usize,
-}
-
-// The answer to a search: the SA, or `found` false and a blank SA.
-#[derive(Clone, Copy)]
-pub struct SaFound {
-    pub found: bool,
-    pub sa: Sa,
 }
 
 impl Table {

@@ -112,10 +112,9 @@ fn put_question(t: &Traced, digits: &[u8], w: &mut impl Write) -> fmt::Result {
 }
 
 fn put_sa_answer(t: &Traced, protocol: u8, spi: &[u8], w: &mut impl Write) -> fmt::Result {
-    let a = t.member.sa(protocol, spi);
-    if !a.found {
+    let Some(a) = t.member.sa(protocol, spi) else {
         return writeln!(w, "none");
-    }
+    };
     write!(w, "found {}", Hex(part(&a.octets, 0, a.count)))?;
     put_times(w, a.condition, a.lifetime)?;
     writeln!(w)

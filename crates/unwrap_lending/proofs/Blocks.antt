@@ -17,6 +17,8 @@ use Rattle.state_keys.specs.declared.kinds.WrappingKey.{WrappingKey}
 use Rattle.state_keys.proofs.Sizes.{wrapping-le}
 use Rattle.unwrap_lending.specs.inner.Lending.{key_octets, place_octets, lent_place, lent_block, FitsPlace, Lends}
 use Rattle.unwrap_lending.specs.inner.Named.{FirstAt, value_named}
+use Rattle.std.specs.Prelude.{Some}
+use Rattle.state_keys.specs.Kinds.{key_or_blank}
 
 pub fits-most : (k : WrappingKey) → FitsPlace k → k.count ≤ key_octets
 fits-most k f = ⊎_elim (λ z. omega arith) (λ e. wrapping-le k.count e) f.size
@@ -111,10 +113,7 @@ module _ (keys : List HeldKey) (ids block : List ℕ) (lends : Lends keys ids bl
         let h : j < length keys = omega arith in
         passed-keys j (omega arith) ∙ key-passed j h (λ e. f.passed j (omega arith) (id-at j h ∙ e))
 
-    key_here : (h : r < length keys) → (get_or keys r blank_key).id ≡ id → key_with id (drop r keys) ≡ record {
-      fits = true;
-      key = (get_or keys r blank_key).key;
-    }
+    key_here : (h : r < length keys) → (get_or keys r blank_key).id ≡ id → key_with id (drop r keys) ≡ Some (get_or keys r blank_key).key
     unfolding key_with
     key_here h e = rw (drop-cons keys r blank_key h, eq-eqb (get_or keys r blank_key).id id e)
 
@@ -126,9 +125,9 @@ module _ (keys : List HeldKey) (ids block : List ℕ) (lends : Lends keys ids bl
     found-value h =
         let n = ids-length in
         let z : r < length ids = omega arith in
-        ap (λ m. value_of m.key) (sym (passed-keys r (omega arith) ∙ key_here h (sym (id-at r h) ∙ f.here z)))
+        ap (λ m. value_of (key_or_blank m)) (sym (passed-keys r (omega arith) ∙ key_here h (sym (id-at r h) ∙ f.here z)))
 
     pub no_value : length ids ≤ r → [] ≡ value_named id keys
     no_value g =
         let n = ids-length in
-        ap (λ m. value_of m.key) (sym (passed-keys r (omega arith) ∙ key-end (omega arith)))
+        ap (λ m. value_of (key_or_blank m)) (sym (passed-keys r (omega arith) ∙ key-end (omega arith)))

@@ -11,7 +11,6 @@ use lib.Seq.{take_all, get_or-take, length-take-le, take_at, take-suc, take-suc-
 use Rattle.state_keys.specs.Algorithms.{is_wrapping_size}
 use Rattle.state_keys.specs.Limits.{limits}
 use Rattle.lists.proofs.Cases.{lt-cases}
-use Rattle.state_keys.specs.declared.kinds.MadeWrapping.{MadeWrapping}
 use Rattle.state.specs.Held.{blank_key, keys_of, ids_of, held_formed, held_key}
 use Rattle.state.proofs.Laws.{key_in}
 use Rattle.state.specs.declared.held.HeldKey.{HeldKey}
@@ -19,6 +18,9 @@ use Rattle.state.specs.declared.held.Held.{Held}
 use Rattle.unwrap_lending.specs.inner.Lending.{key_octets, place_octets, lent_place, lent_block, FitsPlace, Rooms, LendsFirst, Puts}
 use Rattle.unwrap_lending.specs.inner.Lending.{named_keys, LendsNamed}
 use Rattle.unwrap_lending.proofs.HeldLaws.{get_d_any, held-within, held-formed, found-sized}
+use Rattle.std.specs.Prelude.{Option}
+use Rattle.state_keys.specs.Kinds.{key_or_blank}
+use Rattle.state_keys.specs.declared.kinds.WrappingKey.{WrappingKey}
 
 -- ---- a count and the octets of an array put into a place
 put-length : (s o : List ℕ) (at c : ℕ) → at + place_octets ≤ length s → length o ≡ key_octets →
@@ -105,31 +107,31 @@ filled_more keys ids block i m h f k is sized out p =
 
 -- ---- a key for each of some Key IDs
 module _ (reached : Held) (formed : held_formed limits reached ≡ true) (ids : List ℕ) where
-  pub named-sized : (i : ℕ) → ((held_key limits i reached).key.count ≡ 0) ⊎ (is_wrapping_size (held_key limits i reached).key.count ≡ true)
+  pub named-sized : (i : ℕ) → ((key_or_blank (held_key limits i reached)).count ≡ 0) ⊎ (is_wrapping_size (key_or_blank (held_key limits i reached)).count ≡ true)
   named-sized i =
-      subst (λ (m : MadeWrapping). (m.key.count ≡ 0) ⊎ (is_wrapping_size m.key.count ≡ true))
+      subst (λ (m : Option WrappingKey). ((key_or_blank m).count ≡ 0) ⊎ (is_wrapping_size (key_or_blank m).count ≡ true))
       (sym (key_in limits reached i (held-within reached formed))) (found-sized i (keys_of reached) (held-formed reached formed))
 
   pub named_count : length (named_keys reached ids) ≡ length ids
-  named_count = length-map {A = ℕ} {B = HeldKey} ids (λ (j : ℕ). record { id = j; key = (held_key limits j reached).key })
+  named_count = length-map {A = ℕ} {B = HeldKey} ids (λ (j : ℕ). record { id = j; key = key_or_blank (held_key limits j reached) })
 
   named-at : (i : ℕ) → i < length ids → get_or (named_keys reached ids) i blank_key ≡ record {
     id = get_or ids i 0;
-    key = (held_key limits (get_or ids i 0) reached).key;
+    key = key_or_blank (held_key limits (get_or ids i 0) reached);
   }
   named-at i h =
       let n = named_count in
-      get_d_any (named_keys reached ids) i blank_key (record { id = 0; key = (held_key limits 0 reached).key }) (omega arith)
-      ∙ get_or-map (λ (j : ℕ). record { id = j; key = (held_key limits j reached).key }) ids i 0
+      get_d_any (named_keys reached ids) i blank_key (record { id = 0; key = key_or_blank (held_key limits 0 reached) }) (omega arith)
+      ∙ get_or-map (λ (j : ℕ). record { id = j; key = key_or_blank (held_key limits j reached) }) ids i 0
 
   pub named_more : (block : List ℕ) (i : ℕ) → Placed (named_keys reached ids) block i → i < length ids → i < limits.held_keys →
-      (made : MadeWrapping) → made ≡ held_key limits (get_or ids i 0) reached → (out : List ℕ) →
-      Puts made.key (place_octets * i) block out → Placed (named_keys reached ids) out (i + 1)
-  named_more block i m h f made e out p =
+      (key : WrappingKey) → key ≡ key_or_blank (held_key limits (get_or ids i 0) reached) → (out : List ℕ) →
+      Puts key (place_octets * i) block out → Placed (named_keys reached ids) out (i + 1)
+  named_more block i m h f key e out p =
       let n = named_count in
       placed-more (named_keys reached ids) block i m (omega arith) f
-      (record { id = get_or ids i 0; key = (held_key limits (get_or ids i 0) reached).key }) (named-at i h) (named-sized (get_or ids i 0)) out
-      (subst (λ (x : MadeWrapping). Puts x.key (place_octets * i) block out) e p)
+      (record { id = get_or ids i 0; key = key_or_blank (held_key limits (get_or ids i 0) reached) }) (named-at i h) (named-sized (get_or ids i 0)) out
+      (subst (λ (x : WrappingKey). Puts x (place_octets * i) block out) e p)
 
   named-ids : (l : List ℕ) → l ≡ ids_of (named_keys reached l)
   named-ids [] = refl

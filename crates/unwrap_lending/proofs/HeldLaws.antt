@@ -17,6 +17,7 @@ use Rattle.lists.proofs.Cases.{bool_cases, and_parts}
 use Rattle.state.specs.Held.{keys_of, key_formed, ids_of, distinct, held_formed, key_with}
 use Rattle.state.specs.declared.held.HeldKey.{HeldKey}
 use Rattle.state.specs.declared.held.Held.{Held}
+use Rattle.state_keys.specs.Kinds.{key_or_blank}
 
 pub key-size : (k : HeldKey) → key_formed k ≡ true → is_wrapping_size k.key.count ≡ true
 unfolding key_formed
@@ -47,7 +48,7 @@ get_d_any (x ∷ l) (suc i) a b h = get_d_any l i a b (omega arith)
 
 -- the key that is found by its Key ID has the size of a wrapping key, or no octets
 pub found-sized : (id : ℕ) (l : List HeldKey) → all key_formed l ≡ true →
-    ((key_with id l).key.count ≡ 0) ⊎ (is_wrapping_size (key_with id l).key.count ≡ true)
+    ((key_or_blank (key_with id l)).count ≡ 0) ⊎ (is_wrapping_size (key_or_blank (key_with id l)).count ≡ true)
 unfolding key_with all
 found-sized id [] a = inl refl
 found-sized id (k ∷ l) a =

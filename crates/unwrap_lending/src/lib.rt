@@ -52,7 +52,8 @@ pub fn lend_named(ids: &[u32], reached: &Held, block: &mut [u8])
     ensures { LendsNamed reached.now ids.now block.new }
 {
     for (i, id) in ids.iter().enumerate() {
-        put(&reached.find(*id).key, PLACE * i, block);
+        let key = reached.find(*id).unwrap_or(WrappingKey::blank());
+        put(&key, PLACE * i, block);
     }
 }
 

@@ -14,7 +14,6 @@ use Rattle.rules_chains.specs.Path.{key_ids, Keys, no_key, one_more}
 use Rattle.rules_chains.proofs.Determined.{one_value}
 use Rattle.state_keys.specs.Limits.{limits}
 use Rattle.state_keys.specs.Kinds.{value_of}
-use Rattle.state_keys.specs.declared.kinds.MadeWrapping.{MadeWrapping}
 use Rattle.lists.proofs.Fill.{Filled, filled_none, filled_more, written-more, filled-all, filled-count}
 use Rattle.state.specs.Held.{keys_of, held_of, held_key, blank_key}
 use Rattle.state.specs.declared.held.HeldKey.{HeldKey}
@@ -28,6 +27,7 @@ use Rattle.unwrap_paths.specs.inner.Kept.{SearchKept}
 use Rattle.rules_outcome.specs.Holding.{held_from, path_before, held_by_path, HoldsPath}
 use Rattle.unwrap_paths.specs.declared.held.PathHeld.{PathHeld}
 use Rattle.unwrap_paths.specs.inner.Holding.{held_at, GoesBefore, PathTells}
+use Rattle.state_keys.specs.Kinds.{key_or_blank}
 
 -- ---- the loop: the first i places of the list hold the keys at the first i places of the path
 module _ (K : ℕ → HeldKey) (places : List ℕ) (count : ℕ) where
@@ -104,8 +104,8 @@ module _ (roots : List Root) (l : List WrapKey) (size : ℕ) (links : Links) (re
   held-at i a =
       let h : i < links.count = omega (arith, kept.lists.count, a.inside) in
       let e = kept.linked.linked.id-is i h ∙ (kept.lists.at i h).id in
-      let k = ap (λ (j : ℕ). (held_key limits j reached).key) e
-      ∙ ap (λ (m : MadeWrapping). m.key) (kept.gives (key_at l i).key_id (value_of (cell_at cells i).key) (value-at i a)) in
+      let k = ap (λ (j : ℕ). key_or_blank (held_key limits j reached)) e
+      ∙ ap key_or_blank (kept.gives (key_at l i).key_id (value_of (cell_at cells i).key) (value-at i a)) in
       λ t. record { id = e t; key = k t }
 
   all_held : (p : List ℕ) → ((i : ℕ) → Memᴰ i p → At i) → map (held_at links.ids reached) p ≡ map held_from (map root_at p)

@@ -18,21 +18,26 @@ use Rattle.state.specs.declared.held.HeldKey.{HeldKey}
 use Rattle.state.specs.declared.held.Held.{Held}
 use Rattle.rules_outcome.specs.Holding.{from_key, on_path, path_before}
 use Rattle.unwrap_paths.specs.inner.Holding.{GoesBefore}
+use Rattle.std.specs.Prelude.{is_some}
 
 -- ---- the test
 -- a key of the path is found by its Key ID
-with-id : (l : List HeldKey) (i : ℕ) → (key_with i l).fits ≡ any (λ (p : HeldKey). eqb p.id i) l
+with-id : (l : List HeldKey) (i : ℕ) → is_some (key_with i l) ≡ any (λ (p : HeldKey). eqb p.id i) l
 unfolding key_with any
 with-id [] i = refl
 with-id (k ∷ l) i = bool_cases (eqb k.id i) (λ e. rw e refl) (λ e. rw e (with-id l i))
 
+flipped : (r b : Bool) → not r ≡ b → r ≡ not b
+flipped true b e = ap not e
+flipped false b e = ap not e
+
 module _ (path : Held) (few : path.count ≤ limits.held_keys) (met : Bool) (k : HeldKey) where
-  found-on : (held_key limits k.id path).fits ≡ on_path (keys_of path) k
+  found-on : is_some (held_key limits k.id path) ≡ on_path (keys_of path) k
   unfolding held_key
   found-on = rw (le-leb path.count limits.held_keys few) (with-id (keys_of path) k.id)
 
-  pub stays-is : met ≡ true → (fits : Bool) → fits ≡ (held_key limits k.id path).fits → not fits ≡ (met && not (on_path (keys_of path) k))
-  stays-is e fits f = let g = f ∙ found-on in rw (e, g) refl
+  pub stays-is : met ≡ true → (r : Bool) → is_some (held_key limits k.id path) ≡ not r → r ≡ (met && not (on_path (keys_of path) k))
+  stays-is e r f = rw e (flipped r (on_path (keys_of path) k) (sym f ∙ found-on))
 
 -- ---- the loop
 module _ (path : List HeldKey) (end : ℕ) where

@@ -15,6 +15,7 @@ use crate::links::Links;
 use crate::nearest::nearest_of;
 use crate::path;
 use state::held::{Held, HeldKey};
+use state_keys::kinds::WrappingKey;
 use state_keys::limits::HELD_KEYS;
 
 // The list that a path leaves. `over` says that it has more keys than a held list may have; `held` is then the old list.
@@ -34,7 +35,7 @@ fn path_keys(links: Links, reached: Held, trail: Trail) -> Held
     for i in 0..count {
         let at = trail.places[i];
         let id = links.ids[at];
-        let key = reached.find(id).key;
+        let key = reached.find(id).unwrap_or(WrappingKey::blank());
         keys[i] = HeldKey { id, key };
     }
     Held { keys, count }
@@ -55,7 +56,7 @@ fn stays(path: Held, met: bool, k: HeldKey) -> bool
     requires { path.count ≤ limits.held_keys }
     ensures { result ≡ (met && not (on_path (keys_of path) k)) }
 {
-    met && !path.find(k.id).fits
+    met && path.find(k.id).is_none()
 }
 
 // Puts the keys of a path before those of the old list that stay.

@@ -69,12 +69,12 @@ fn sa_from(
         result ≡ sa_from tick a (take (encryption + wrapping) octets) }
 {
     if protocol == ESP {
-        let e = EspKey::new(&octets[0..encryption]);
-        return Sa::esp(spi, e.key, lifetime);
+        let key = EspKey::new(&octets[0..encryption]).unwrap();
+        return Sa::esp(spi, key, lifetime);
     }
     let all = encryption + wrapping;
-    let k = RekeyKey::new(&octets[0..all], encryption, wrapping);
-    Sa::rekey(spi, k.key, lifetime)
+    let key = RekeyKey::new(&octets[0..all], encryption, wrapping).unwrap();
+    Sa::rekey(spi, key, lifetime)
 }
 
 // Makes the result for one SA, out of the result `one` of its copies. Its policy has this `protocol`, `spi` and `lifetime`, and its

@@ -18,13 +18,16 @@ use Rattle.wire_attributes.specs.Tree.{WrapKey}
 use Rattle.lists.proofs.Cases.{bool_cases}
 use Rattle.state_keys.specs.Algorithms.{is_wrapping_size}
 use Rattle.state_keys.specs.Kinds.{wrapping_of, wrapping_key, value_of}
-use Rattle.state_keys.specs.declared.kinds.MadeWrapping.{MadeWrapping}
 use Rattle.unwrap_search.specs.declared.open.Status.{Status}
 use Rattle.unwrap_search.specs.declared.open.Status.TheVariants.{Waiting, Failed, Wrong, Pending, Done}
 use Rattle.unwrap_search.specs.declared.open.Entry.{Entry}
 use Rattle.unwrap_search.specs.declared.open.Cell.{Cell}
 use Rattle.unwrap_search.specs.inner.Entries.{IsEntry}
 use Rattle.unwrap_search.specs.inner.Opened.{waiting, naming, EntryOpened, WrongSize, NotOpened, Landed, Tried, opened, stays}
+use Rattle.std.specs.Prelude.{Option}
+use Rattle.state_keys.proofs.Made.{wrapping-made}
+use Rattle.state_keys.specs.Kinds.{key_or_blank}
+use Rattle.state_keys.specs.declared.kinds.WrappingKey.{WrappingKey}
 
 module _ (v w octets : List ℕ) (size : ℕ) where
   pub landed_none : Key v → OpensBlank v w None → NotOpened v w
@@ -36,18 +39,14 @@ module _ (v w octets : List ℕ) (size : ℕ) where
   pub landed-wrong : (m : ℕ) → OpenAnswers v w blank (Some m) octets → (m ≡ size → ⊥) → WrongSize v size w
   landed-wrong m h ne = record { x = h.x; opens = h.result.opens; misfit = λ e. ne (sym h.count ∙ e) }
 
-  pub landed-right : (m : ℕ) (made : MadeWrapping) → OpenAnswers v w blank (Some m) octets → m ≡ size → is_wrapping_size size ≡ true →
-      made ≡ wrapping_key (take m octets) → EntryOpened v size w made.key
-  unfolding wrapping_key
+  pub landed-right : (m : ℕ) (made : Option WrappingKey) → OpenAnswers v w blank (Some m) octets → m ≡ size → is_wrapping_size size ≡ true →
+      made ≡ wrapping_key (take m octets) → EntryOpened v size w (key_or_blank made)
   landed-right m made h e fit q =
       let x = h.x in
       let t : take m octets ≡ x = ap (take m) h.room-is ∙ take_at x (drop (length x) blank) m h.count in
       let f : is_wrapping_size (length x) ≡ true = ap is_wrapping_size (h.count ∙ e) ∙ fit in
-      let yes : MadeWrapping = record { fits = true; key = wrapping_of x } in
-      let k : (wrapping_key x).key ≡ wrapping_of x =
-      ap (λ (b : Bool). (cond {A = MadeWrapping} b yes (record { fits = false; key = wrapping_of [] })).key) f in
-      let is : made.key ≡ wrapping_of x = ap (λ (a : MadeWrapping). a.key) (q ∙ ap wrapping_key t) ∙ k in
-      let value : value_of made.key ≡ x = ap value_of is ∙ take-append_seam x (replicate (32 - length x) 0) in
+      let is : key_or_blank made ≡ wrapping_of x = ap key_or_blank (q ∙ ap wrapping_key t ∙ wrapping-made x f) in
+      let value : value_of (key_or_blank made) ≡ x = ap value_of is ∙ take-append_seam x (replicate (32 - length x) 0) in
       record {
         opens = subst (Opens v w) (sym value) h.result.opens;
         fits = ap length value ∙ h.count ∙ e;

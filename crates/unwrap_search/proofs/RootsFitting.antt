@@ -11,7 +11,6 @@ use Rattle.rules_chains.specs.Chain.{In, Root}
 use Rattle.rules_chains.proofs.Members.{in-member}
 use Rattle.state_keys.specs.Limits.{limits}
 use Rattle.state_keys.specs.Kinds.{value_of}
-use Rattle.state_keys.specs.declared.kinds.MadeWrapping.{MadeWrapping}
 use Rattle.state.specs.Held.{keys_of, key_with, held_formed}
 use Rattle.state.specs.declared.held.HeldKey.{HeldKey}
 use Rattle.state.specs.declared.held.Held.{Held}
@@ -19,6 +18,7 @@ use Rattle.state.proofs.Kept.{distinct-found}
 use Rattle.unwrap_lending.proofs.HeldLaws.{held-distinct, not-zero}
 use Rattle.unwrap_search.specs.inner.Search.{key_at, Nonzero, held_roots, roots_with, RootsFit}
 use Rattle.unwrap_search.proofs.Starting.{carried-at, held-root}
+use Rattle.std.proofs.lemmas.Option.{same_Some}
 
 pub root-cases : (v : List ℕ) (l : List WrapKey) (keys : List HeldKey) (r : Root) → In r (roots_with v l keys) →
     (r ≡ record { id = 0; value = v }) ⊎ Memᴰ r (held_roots l keys)
@@ -39,7 +39,7 @@ module _ (v : List ℕ) (l : List WrapKey) (held : Held) (formed : held_formed l
       let d = held-distinct held formed in
       let q : f.0.id ≡ g.0.id = ap (λ (x : Root). x.id) f.2 ∙ e ∙ sym (ap (λ (x : Root). x.id) g.2) in
       let z : f.0.key ≡ g.0.key =
-      ap (λ (x : MadeWrapping). x.key)
+      same_Some f.0.key g.0.key
       (sym (distinct-found f.0 keys d f.1) ∙ ap (λ (i : ℕ). key_with i keys) q ∙ distinct-found g.0 keys d g.1) in
       sym (ap (λ (x : Root). x.value) f.2) ∙ ap value_of z ∙ ap (λ (x : Root). x.value) g.2
 

@@ -18,7 +18,6 @@ use Rattle.lists.specs.Lists.{any, keep}
 use Rattle.state_keys.specs.Algorithms.{is_wrapping_size}
 use Rattle.state_keys.specs.Kinds.{wrapping_of, wrapping_key, value_of}
 use Rattle.state_keys.specs.declared.kinds.WrappingKey.{WrappingKey}
-use Rattle.state_keys.specs.declared.kinds.MadeWrapping.{MadeWrapping}
 use Rattle.state_keys.proofs.Sizes.{wrapping-le}
 use Rattle.lists.proofs.Cases.{bool_cases}
 use Rattle.lists.proofs.Members.{kept-member}
@@ -28,6 +27,8 @@ use Rattle.unwrap_search.specs.declared.open.Entry.{Entry}
 use Rattle.unwrap_search.specs.inner.Entries.{no_entry, Lists}
 use Rattle.unwrap_lending.specs.inner.Lending.{Lends}
 use Rattle.unwrap_search.specs.inner.Search.{key_at, carried_by, root_of, held_roots, KeyFrom}
+use Rattle.std.specs.Prelude.{Option}
+use Rattle.state_keys.specs.Kinds.{key_or_blank}
 
 -- ---- a Key ID that one of the entries has
 pub carried-at : (l : List WrapKey) (id i : ℕ) → i < length l → (key_at l i).key_id ≡ id → carried_by l id ≡ true
@@ -69,8 +70,8 @@ carried-told frame places id false f l lists =
 
 -- ---- a key made of a lent one
 pub key-from : (keys : List HeldKey) (ids block : List ℕ) → Lends keys ids block → (i : ℕ) → i < length keys →
-    is_wrapping_size (get_or keys i blank_key).key.count ≡ true → (made : MadeWrapping) →
-    made ≡ wrapping_key (value_of (get_or keys i blank_key).key) → KeyFrom (get_or keys i blank_key).key made.key
+    is_wrapping_size (get_or keys i blank_key).key.count ≡ true → (made : Option WrappingKey) →
+    made ≡ wrapping_key (value_of (get_or keys i blank_key).key) → KeyFrom (get_or keys i blank_key).key (key_or_blank made)
 unfolding wrapping_key
 key-from keys ids block lends i h size made is =
     let k = (get_or keys i blank_key).key in
@@ -78,7 +79,7 @@ key-from keys ids block lends i h size made is =
     let m = wrapping-le k.count size in
     let n : length (value_of k) ≡ k.count = length-take-le k.count k.octets (omega arith) in
     let e : is_wrapping_size (length (value_of k)) ≡ true = ap is_wrapping_size n ∙ size in
-    let q : made.key ≡ wrapping_of (value_of k) = ap (λ (x : MadeWrapping). x.key) is ∙ rw e refl in
+    let q : key_or_blank made ≡ wrapping_of (value_of k) = ap key_or_blank is ∙ rw e refl in
     record {
       value = ap value_of q ∙ take-append_seam (value_of k) (replicate (32 - length (value_of k)) 0);
       size = ap (λ (x : WrappingKey). is_wrapping_size x.count) q ∙ e;

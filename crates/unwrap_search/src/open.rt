@@ -90,8 +90,7 @@ pub(crate) fn open_entry(
         Some(opened) => {
             let n = opened.count;
             if n == size {
-                let made = WrappingKey::new(&opened.octets[..n]);
-                let key = made.key;
+                let key = WrappingKey::new(&opened.octets[..n]).unwrap_or(none);
                 return Cell {
                     status: Status::Pending,
                     key,

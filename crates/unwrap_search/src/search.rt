@@ -97,8 +97,7 @@ fn key_at(i: usize, block: &[u8]) -> WrappingKey
     ensures { (keys : List HeldKey) (ids : List ℕ) → Lends keys ids block.now → i < length keys →
         is_wrapping_size (get_or keys i blank_key).key.count ≡ true → KeyFrom (get_or keys i blank_key).key result }
 {
-    let made = WrappingKey::new(value_at(i, block));
-    made.key
+    WrappingKey::new(value_at(i, block)).unwrap_or(WrappingKey::blank())
 }
 
 // Opens `entries` along the chains that start with `lent` as key 0, or with one of the held keys that `ids` and `block` lend, if no entry

@@ -21,7 +21,6 @@ use Rattle.lists.specs.Lists.{any}
 use Rattle.state_keys.specs.Algorithms.{size_of, is_wrapping_size}
 use Rattle.state_keys.specs.Kinds.{wrapping_of, value_of}
 use Rattle.state_keys.specs.declared.kinds.WrappingKey.{WrappingKey}
-use Rattle.state_keys.specs.declared.kinds.MadeWrapping.{MadeWrapping}
 use Rattle.lists.proofs.Cases.{bool_cases}
 use Rattle.state_keys.proofs.Sizes.{wrapping-le}
 use Rattle.state.specs.Held.{blank_key, keys_of, key_with, held_formed, held_key, ids_of, has}
@@ -40,6 +39,8 @@ use Rattle.unwrap_search.proofs.Starting.{carried-at, held-root, root-member}
 use Rattle.unwrap_search.proofs.RootsFitting.{root-cases}
 use Rattle.unwrap_tree.specs.inner.AllReached.{HeldAre}
 use Rattle.unwrap_tree.proofs.Membership.{held_key_of}
+use Rattle.std.specs.Prelude.{Option}
+use Rattle.state_keys.specs.Kinds.{key_or_blank}
 
 pub value-of : (x : List ℕ) → value_of (wrapping_of x) ≡ x
 value-of x = take-append_seam x (replicate (32 - length x) 0)
@@ -66,16 +67,16 @@ module _ (reached : Held) where
       bool_cases (eqb e.key_id id) (λ g. rw g refl) (λ g. rw g (carried-has id l))
 
   named-key : (id : ℕ) (l : List WrapKey) → carried_by l id ≡ true
-      → (key_with id (named_keys reached (key_ids l))).key ≡ (held_key limits id reached).key
+      → key_or_blank (key_with id (named_keys reached (key_ids l))) ≡ key_or_blank (held_key limits id reached)
   unfolding any key_with
   named-key id [] e = absurd (false≢true e)
   named-key id (a ∷ l) e =
       bool_cases (eqb a.key_id id)
-      (λ g. rw g (ap (λ (i : ℕ). (held_key limits i reached).key) (eqb-true a.key_id id g)))
+      (λ g. rw g (ap (λ (i : ℕ). key_or_blank (held_key limits i reached)) (eqb-true a.key_id id g)))
       (λ g. rw g (named-key id l (rw g at e)))
 
   octets-carried : (id : ℕ) (l : List WrapKey) (keys : List HeldKey) → carried_by l id ≡ true →
-      octets_named id (named_keys reached (key_ids l)) keys ≡ value_of (held_key limits id reached).key
+      octets_named id (named_keys reached (key_ids l)) keys ≡ value_of (key_or_blank (held_key limits id reached))
   octets-carried id l keys e = rw (carried-has id l, e) (ap value_of (named-key id l e))
 
   octets-held : (id : ℕ) (l : List WrapKey) (keys : List HeldKey) → carried_by l id ≡ false →
@@ -87,7 +88,7 @@ pub record Stands (id : ℕ) (l : List HeldKey) : Type 0 where
   pub one : HeldKey
   pub member : Memᴰ one l
   pub id-is : one.id ≡ id
-  pub is : (key_with id l).key ≡ one.key
+  pub is : key_or_blank (key_with id l) ≡ one.key
 
 found-stands : (id : ℕ) (l : List HeldKey) → (length (value_named id l) ≡ 0 → ⊥) → Stands id l
 unfolding key_with
@@ -124,17 +125,17 @@ module _ (zero : WrappingKey) (l : List WrapKey) (size : ℕ) (held : Held) (ids
         ∙ distinct-found k are.keys (rising-distinct are.keys are.rise) (in-member k are.keys (are.all i x v))
 
     -- ---- what is named ends a chain
-    reached-ends : (id : ℕ) → (length (value_of (held_key limits id reached).key) ≡ 0 → ⊥) →
-        ChainEnds roots l size id (value_of (held_key limits id reached).key)
+    reached-ends : (id : ℕ) → (length (value_of (key_or_blank (held_key limits id reached))) ≡ 0 → ⊥) →
+        ChainEnds roots l size id (value_of (key_or_blank (held_key limits id reached)))
     reached-ends id f =
         let w : held_key limits id reached ≡ key_with id (keys_of reached) = key_in limits reached id (held-within reached formed) in
         let s = found-stands id (keys_of reached)
-        (λ z. f (ap (λ (m : MadeWrapping). length (value_of m.key)) w ∙ z)) in
+        (λ z. f (ap (λ (m : Option WrappingKey). length (value_of (key_or_blank m))) w ∙ z)) in
         let h = are.each s.one (member-in s.one are.keys (subst (Memᴰ s.one) keys-are s.member)) in
         let g = h.value.reached in
-        let e : (held_key limits id reached).key ≡ wrapping_of h.x =
-        ap (λ (m : MadeWrapping). m.key) w ∙ s.is ∙ h.key-is in
-        subst (λ (i : ℕ). ChainEnds roots l size i (value_of (held_key limits id reached).key)) s.id-is
+        let e : key_or_blank (held_key limits id reached) ≡ wrapping_of h.x =
+        ap key_or_blank w ∙ s.is ∙ h.key-is in
+        subst (λ (i : ℕ). ChainEnds roots l size i (value_of (key_or_blank (held_key limits id reached)))) s.id-is
         (subst (ChainEnds roots l size s.one.id) (sym (ap value_of e ∙ value-of h.x))
         (record { passed = g.last ∷ g.before; chain = g.chain }))
 
@@ -184,7 +185,7 @@ module _ (zero : WrappingKey) (l : List WrapKey) (size : ℕ) (held : Held) (ids
         let d = distinct-found k keys (held-distinct held lends.formed) g.1 in
         subst (λ (x : Root). Known zero fresh keys x.id x.value) g.2
         (name-is k.id (value_of k.key) (not-zero held lends.formed k g.1)
-        (octets-held reached k.id l keys g.3 ∙ ap (λ (m : MadeWrapping). value_of m.key) d)
+        (octets-held reached k.id l keys g.3 ∙ ap (λ (m : Option WrappingKey). value_of (key_or_blank m)) d)
         (λ y. size-some k.key.count s (sym n ∙ y)))
 
     known_at : (k : ℕ) (v : List ℕ) → AtRoot roots l size k v ⊎ Reached roots l size k v → Known zero fresh keys k v
@@ -200,7 +201,7 @@ module _ (zero : WrappingKey) (l : List WrapKey) (size : ℕ) (held : Held) (ids
         let n = entries_fit roots l size none k v r in
         name-is k v (λ z. nonzero a.0.place a.0.inside (e ∙ z))
         (octets-carried reached k l keys (carried-at l k a.0.place a.0.inside e)
-        ∙ ap (λ (m : MadeWrapping). value_of m.key) (held_gives k v x) ∙ value-of v)
+        ∙ ap (λ (m : Option WrappingKey). value_of (key_or_blank m)) (held_gives k v x) ∙ value-of v)
         (λ y. size-some size sized (sym n ∙ y))
 
     pub held-agrees : Agrees roots l size zero fresh keys

@@ -13,6 +13,7 @@ use Rattle.state_keys.specs.Limits.{limits}
 use Rattle.lists.specs.Lists.{rising, insert}
 use Rattle.lists.proofs.Rising.{length-insert, rising-insert}
 use Rattle.lists.proofs.Members.{inserted-member, member-inserted}
+use Rattle.std.specs.Prelude.{is_some}
 use Rattle.state.specs.Held.{keys_of, held_of, key_with, held_key}
 use Rattle.state.specs.inner.Entering.{id_before, entered_key}
 use Rattle.state.specs.declared.held.HeldKey.{HeldKey}
@@ -98,11 +99,11 @@ module _ (places : List Entry) (cells : List Cell) where
         stays r e
         (λ d.
         has_key (entry_at places n).id x.keys
-        (ap (λ m. m.fits) (sym (found-is x.keys held x.is (entry_at places n).id (omega (arith, x.few)))) ∙ f))
+        (ap is_some (sym (found-is x.keys held x.is (entry_at places n).id (omega (arith, x.few)))) ∙ f))
     entered-next r (enters d f e) =
         let a : HeldKey = record { id = (entry_at places n).id; key = (cell_at cells n).key } in
         let g = has-no-key a.id x.keys
-        (ap (λ m. m.fits) (sym (found-is x.keys held x.is a.id (omega (arith, x.few)))) ∙ f) in
+        (ap is_some (sym (found-is x.keys held x.is a.id (omega (arith, x.few)))) ∙ f) in
         record {
           keys = insert id_before a x.keys;
           is = e ∙ entered-is x.keys held x.is a (omega (arith, x.few));

@@ -10,6 +10,7 @@ use Rattle.state_keys.specs.Kinds.{wrapping_of}
 use Rattle.lists.proofs.Cases.{bool_cases, and-whole}
 use Rattle.state.specs.Held.{key_with}
 use Rattle.state.specs.declared.held.HeldKey.{HeldKey}
+use Rattle.std.specs.Prelude.{is_some}
 
 module _ {A : Type 0} where
   -- what passes of each member passes of all
@@ -28,14 +29,14 @@ pub record Has (id : ℕ) (l : List HeldKey) : Type 0 where
   pub member : Memᴰ key l
   pub id-is : key.id ≡ id
 
-pub has_key : (id : ℕ) (l : List HeldKey) → (key_with id l).fits ≡ true → Has id l
+pub has_key : (id : ℕ) (l : List HeldKey) → is_some (key_with id l) ≡ true → Has id l
 unfolding key_with
 has_key id [] e = absurd (false≢true e)
 has_key id (k ∷ l) e =
     bool_cases (eqb k.id id) (λ g. record { key = k; member = Memᴰ.head refl; id-is = eqb-true k.id id g })
     (λ g. let r = has_key id l (rw g at e) in record { key = r.key; member = Memᴰ.tail r.member; id-is = r.id-is })
 
-pub has-no-key : (id : ℕ) (l : List HeldKey) → (key_with id l).fits ≡ false → any (λ (k : HeldKey). eqb k.id id) l ≡ false
+pub has-no-key : (id : ℕ) (l : List HeldKey) → is_some (key_with id l) ≡ false → any (λ (k : HeldKey). eqb k.id id) l ≡ false
 unfolding key_with any
 has-no-key id [] e = refl
 has-no-key id (k ∷ l) e =

@@ -32,7 +32,7 @@ fn with_cell(held: Held, e: Entry, c: Cell) -> Held
     ensures { Joins e c held result }
 {
     let id = e.id;
-    if is_done(c) && !held.find(id).fits {
+    if is_done(c) && held.find(id).is_none() {
         let key = c.key;
         return held.enter(HeldKey { id, key });
     }

@@ -32,6 +32,7 @@ use Rattle.check_judging.specs.inner.Verdicts.{number_of_refusal}
 use Rattle.check_judging.specs.declared.facts.Facts.{Facts}
 use Rattle.check_judging.specs.declared.numbers.Refusal.{Refusal}
 use Rattle.unwrap_tree.specs.inner.Entries.{HoldsEntries}
+use Rattle.state_keys.specs.Kinds.{key_or_blank}
 
 -- s are the octets of the frame f, none of numbers 2 to 7 applies to it, and x are its facts
 pub record Passed (m : State) (now : ℕ) (lent s : List ℕ) (x : Facts) (f : Frame) : Type 0 where
@@ -77,7 +78,7 @@ EachHasCopy roots entries size f = (a : GroupSaPolicy) → In a (announced f) �
 
 -- r is the default key of the live Rekey SA of the table t, and has a size that a wrapping key can have
 pub record IsDefaultKey (t : Table) (r : WrappingKey) : Type 0 where
-  pub is : r ≡ (default_key limits t).key
+  pub is : r ≡ key_or_blank (default_key limits t)
   pub fits : is_wrapping_size r.count ≡ true
 
 -- the outcome of the frame f: the state after acceptance, or the refusal with the number that is judged

@@ -6,6 +6,7 @@ use Rattle.state_keys.specs.declared.kinds.WrappingKey.{WrappingKey}
 use Rattle.state.specs.Held.{blank_key, keys_of, ids_of, held_formed, held_key}
 use Rattle.state.specs.declared.held.HeldKey.{HeldKey}
 use Rattle.state.specs.declared.held.Held.{Held}
+use Rattle.state_keys.specs.Kinds.{key_or_blank}
 
 -- the size of a wrapping key's array
 abbrev pub key_octets : ℕ
@@ -53,7 +54,7 @@ pub record LendsFirst (held : Held) (ids block : List ℕ) : Type 0 where
 
 -- the keys of `reached` with these Key IDs, in their order; one of no octets where the list has none
 abbrev pub named_keys : Held → List ℕ → List HeldKey
-named_keys reached ids = map (λ (i : ℕ). record { id = i; key = (held_key limits i reached).key }) ids
+named_keys reached ids = map (λ (i : ℕ). record { id = i; key = key_or_blank (held_key limits i reached) }) ids
 
 -- `ids` and the places at the start of `block` lend these keys
 pub record LendsNamed (reached : Held) (ids block : List ℕ) : Type 0 where

@@ -4,6 +4,7 @@ use Rattle.state_keys.specs.Kinds.{value_of}
 use Rattle.state.specs.Held.{key_with, ids_of, has}
 use Rattle.state.specs.declared.held.HeldKey.{HeldKey}
 use Rattle.unwrap_lending.specs.inner.Lending.{place_octets}
+use Rattle.state_keys.specs.Kinds.{key_or_blank}
 
 -- r is the place of the first of `ids` that equals `id`, or their number if there is none
 pub record FirstAt (id : ℕ) (ids : List ℕ) (r : ℕ) : Type 0 where
@@ -27,7 +28,7 @@ key_start id ids = cond (has id ids) (place_octets * first_place id ids + 1) 0
 
 -- the value of the key with this Key ID; no octets if there is none
 abbrev pub value_named : ℕ → List HeldKey → List ℕ
-value_named id l = value_of (key_with id l).key
+value_named id l = value_of (key_or_blank (key_with id l))
 
 -- "A KWK ID names the fresh key if the frame carries any entry for that ID, otherwise the held key" (document 02, T-11): `fresh` has a key
 -- for each Key ID that the frame carries, of no octets where no chain reaches it

@@ -10,10 +10,11 @@ use Rattle.state.specs.declared.held.Held.{Held}
 use Rattle.rules_outcome.specs.Holding.{path_before, HoldsPath, OverHeld}
 use Rattle.unwrap_paths.specs.declared.back.Trail.{Trail}
 use Rattle.unwrap_paths.specs.declared.held.PathHeld.{PathHeld}
+use Rattle.state_keys.specs.Kinds.{key_or_blank}
 
 -- the key of the entry at place i: its Key ID is among `ids`, and its value is that of the reached key
 abbrev pub held_at : List ℕ → Held → ℕ → HeldKey
-held_at ids reached i = record { id = oct ids i; key = (held_key limits (oct ids i) reached).key }
+held_at ids reached i = record { id = oct ids i; key = key_or_blank (held_key limits (oct ids i) reached) }
 
 -- a trail with places that links have
 pub record TrailFits (trail : Trail) : Type 0 where

@@ -16,6 +16,7 @@ use Rattle.unwrap_paths.specs.declared.levels.Mark.{Mark}
 use Rattle.unwrap_paths.specs.declared.links.Links.{Links}
 use Rattle.unwrap_paths.specs.inner.Code.{HasLevels}
 use Rattle.unwrap_paths.specs.inner.Links.{LinksAre}
+use Rattle.std.specs.Prelude.{Some}
 
 -- the links are the numbers and levels of the first n entries, by the marks of their cells
 pub record LinksKept (n : ℕ) (entries : List Entry) (cells : List Cell) (links : Links) : Type 0 where
@@ -32,7 +33,7 @@ pub record LinksFit (links : Links) : Type 0 where
 -- the list `reached` gives each key on which a chain of one or more entries ends, with the value that every such chain gives
 abbrev pub GivesReached : List Root → List WrapKey → ℕ → Held → Type 0
 GivesReached roots l size reached =
-    (i : ℕ) (x : List ℕ) → Value roots l size i x → held_key limits i reached ≡ record { fits = true; key = wrapping_of x }
+    (i : ℕ) (x : List ℕ) → Value roots l size i x → held_key limits i reached ≡ Some (wrapping_of x)
 
 -- links and reached keys of a search over the entries l from these roots, where number 8 does not hold of them
 pub record SearchKept (roots : List Root) (l : List WrapKey) (size : ℕ) (links : Links) (reached : Held) : Type 0 where

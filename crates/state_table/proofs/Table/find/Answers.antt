@@ -1,33 +1,29 @@
-use mathlib.Core.Path.{◌≡◌, sym, ◌∙◌}
-use lib.ListN.{length}
+use Rattle.std.proofs.Common.{arith, sym, ◌∙◌}
 use Rattle.state_keys.specs.Limits.{limits}
-use Rattle.lists.proofs.Lists.{length-of-map}
+use Rattle.state_sa.specs.Entry.{named}
 use Rattle.state_table.specs.Table.{found_sa}
-use Rattle.state_table.proofs.Seeking.{sought-none, sought-first, sought-inside, sought-here, sought-next, sought-all}
-use borrow.Author.Rules.{rules}
+use Rattle.state_table.proofs.Laws.{found_in, found-out, one-here, one-next, one_end}
 use Rattle.state_table.proofs.Table.find.Goals as goal
 
-pub returns-then-n-gt-SAS : goal.returns-then-n-gt-SAS
+pub returns-then-self-gt-SAS : goal.returns-then-self-gt-SAS
 unfolding found_sa
-returns-then-n-gt-SAS c = c.nothing.ensures ∙ sought-none _ _ c.if-n-gt-SAS.true
-
-pub loop-i-init : goal.loop-i-init
-loop-i-init c =
-    let e : length c.args.self.sas ≡ limits.sas = search (rules, length-of-map) in
-    sought-first _ _ c.if-n-gt-SAS.false e
-
-pub bounds-self-i : goal.bounds-self-i
-bounds-self-i c = sought-inside _ _ c.loop-i.invariant c.loop-i-test.true
+returns-then-self-gt-SAS c = let a = c.args in sym (found-out limits (named a.protocol a.spi.now) a.self c.if-self-gt-SAS.true)
 
 pub returns-then-is_named : goal.returns-then-is_named
 unfolding found_sa
 returns-then-is_named c =
-    sought-here _ _ c.loop-i.invariant _ c.loop-i-test.true (sym c.if-is_named.true ∙ c.is_named.ensures)
+    let a = c.args in
+    sym (found_in limits (named a.protocol a.spi.now) a.self c.if-self-gt-SAS.false ∙ c.loop-s.invariant
+    ∙ one-here (named a.protocol a.spi.now) _ c.loop-s.s-index _ c.loop-s-test.true (sym c.if-is_named.true ∙ c.is_named.ensures))
 
-pub loop-i-preserved : goal.loop-i-preserved
-loop-i-preserved c =
-    sought-next _ _ c.loop-i.invariant _ c.loop-i-test.true (sym c.if-is_named.false ∙ c.is_named.ensures)
+pub loop-s-preserved : goal.loop-s-preserved
+loop-s-preserved c =
+    let a = c.args in
+    c.loop-s.invariant ∙ one-next (named a.protocol a.spi.now) _ c.loop-s.s-index _ c.loop-s-test.true (sym c.if-is_named.false ∙ c.is_named.ensures)
 
 pub returns : goal.returns
 unfolding found_sa
-returns c = c.nothing-2.ensures ∙ sought-all _ _ c.loop-i.invariant c.loop-i-test.false
+returns c =
+    let a = c.args in
+    sym (found_in limits (named a.protocol a.spi.now) a.self c.if-self-gt-SAS.false ∙ c.loop-s.invariant
+    ∙ one_end (named a.protocol a.spi.now) _ c.loop-s.s-index (omega (arith, c.loop-s-test.false)))

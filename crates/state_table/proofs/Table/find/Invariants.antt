@@ -1,10 +1,7 @@
-use Prim.Native.Nat.{◌-◌}
+use Rattle.std.proofs.Common.{◌≡◌, drop}
 use Rattle.state_sa.specs.Entry.{named}
-use Rattle.state_table.proofs.Seeking.{Sought}
+use Rattle.state_table.specs.Table.{the_one}
 use Rattle.state_table.proofs.Table.find.Given as goal
 
-abbrev pub invariant-loop-i : goal.invariant-loop-i
-invariant-loop-i l = Sought (named l.protocol l.spi) l.self l.i
-
-abbrev pub decreases-loop-i : goal.decreases-loop-i
-decreases-loop-i l = l.n - l.i
+abbrev pub invariant-loop-s : goal.invariant-loop-s
+invariant-loop-s l = the_one (named l.protocol l.spi) l.s-items ≡ the_one (named l.protocol l.spi) (drop l.s-index l.s-items)

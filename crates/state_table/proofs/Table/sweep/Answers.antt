@@ -1,7 +1,6 @@
 use native.Mathlib.Omega.{arith}
 use mathlib.Core.Path.{◌≡◌, sym, ◌∙◌, ap}
 use mathlib.Core.Bool.{not}
-use mathlib.Core.Logic.{⊎_elim}
 use lib.ListN.{length}
 use Rattle.state_keys.specs.Limits.{limits}
 use Rattle.lists.proofs.Lists.{length-of-map}
@@ -11,6 +10,7 @@ use Rattle.state_table.specs.Table.{swept, not_due, stays}
 use Rattle.state_table.proofs.Laws.{changed-made, changed-out}
 use borrow.Author.Rules.{rules}
 use Rattle.state_table.proofs.Table.sweep.Goals as goal
+use Rattle.state_table.proofs.Table.sweep.Goals.{then-not-due, else-not-due}
 
 pub returns-then-n-gt-SAS : goal.returns-then-n-gt-SAS
 unfolding swept
@@ -46,19 +46,24 @@ loop-i-preserved c =
     let n = c.args.tick in
     let v = l.invariant in
     let f = c.due.ensures in
-    ⊎_elim (λ w. rw (w.out-is, w.k-is) (
-      v.0,
-      v.1,
-      omega arith,
-      keeping-no limits.sas blank_sa (stays n) t.sas t.count (omega arith)
-          v.0 l.out l.k l.i v.3 _ (omega arith) (ap not (sym w.if-due.true ∙ f)),
-    )) (λ w. rw (w.out-is, w.k-is) (
-      v.0,
-      v.1,
-      omega arith,
-      keeping-yes limits.sas blank_sa (stays n) t.sas t.count (omega arith) v.0 l.out l.k l.i
-          v.3 _ (omega arith) (ap not (sym w.if-due.false ∙ f)),
-    )) c.if-due.branch-raw
+    elim c.if-not-due.branch [
+      | then-not-due w ↦
+          rw (w.out-is, w.k-is) (
+            v.0,
+            v.1,
+            omega arith,
+            keeping-yes limits.sas blank_sa (stays n) t.sas t.count (omega arith) v.0 l.out l.k l.i
+                v.3 _ (omega arith) (ap not (sym w.if-not-due.true ∙ f)),
+          )
+      | else-not-due w ↦
+          rw (w.out-is, w.k-is) (
+            v.0,
+            v.1,
+            omega arith,
+            keeping-no limits.sas blank_sa (stays n) t.sas t.count (omega arith)
+                v.0 l.out l.k l.i v.3 _ (omega arith) (ap not (sym w.if-not-due.false ∙ f)),
+          )
+    ]
 
 pub returns : goal.returns
 unfolding swept

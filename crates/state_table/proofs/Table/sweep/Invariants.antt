@@ -1,4 +1,4 @@
-use Prim.Native.Nat.{◌-◌, ◌≤◌}
+use Prim.Native.Nat.{◌≤◌}
 use mathlib.Core.Path.{◌≡◌}
 use lib.ListN.{length}
 use Rattle.state_keys.specs.Limits.{limits}
@@ -10,6 +10,3 @@ use Rattle.state_table.proofs.Table.sweep.Given as goal
 abbrev pub invariant-loop-i : goal.invariant-loop-i
 invariant-loop-i l =
     (l.n ≤ limits.sas) × (length l.self.sas ≡ limits.sas) × (l.i ≤ l.n) × Keeping limits.sas blank_sa (stays l.tick) l.self.sas l.n l.out l.k l.i
-
-abbrev pub decreases-loop-i : goal.decreases-loop-i
-decreases-loop-i l = l.n - l.i

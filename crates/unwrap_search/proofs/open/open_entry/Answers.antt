@@ -1,7 +1,8 @@
-use mathlib.Core.Path.{sym}
+use mathlib.Core.Path.{sym, subst}
 use lib.Seq.{length-take-le}
 use Rattle.keywrap.specs.inner.Blank.{blank}
 use Rattle.keywrap.proofs.Opening.{put-most}
+use Rattle.unwrap_search.specs.inner.Opened.{EntryOpened}
 use Rattle.unwrap_search.proofs.Opening.{landed_none, landed-wrong, landed-right}
 use Rattle.unwrap_search.proofs.open.open_entry.Goals as goal
 
@@ -23,10 +24,11 @@ returns-then-n-size c v x =
     let n = c.in-Some.opened.count in
     let o = c.in-Some.opened.octets in
     let w = c.args.wrapped.now in
-    landed-right v w o c.args.size n c.new-made.result
+    subst (EntryOpened v c.args.size w) (sym c.unwrap_or-key.ensures)
+    (landed-right v w o c.args.size n c.new.result
     (c.in-Some.ensures v x)
     c.if-n-size.true
-    c.requires.size_value c.new-made.ensures
+    c.requires.size_value c.new.ensures)
 
 pub returns-in-None : goal.returns-in-None
 returns-in-None c v x = landed_none v c.args.wrapped.now blank c.args.size x.key-is (c.in-None.ensures v x)

@@ -1,7 +1,8 @@
 use native.Mathlib.Omega.{arith}
-use mathlib.Core.Path.{◌≡◌, sym, ◌∙◌}
+use mathlib.Core.Path.{◌≡◌, sym, ◌∙◌, ap}
 use mathlib.Core.Logic.{⊎_elim}
-use lib.ListN.{length}
+use Prim.Native.Nat.{ℕ, ◌+◌}
+use lib.ListN.{length, set}
 use Rattle.state_keys.specs.Limits.{limits}
 use Rattle.lists.proofs.Lists.{length-of-map}
 use Rattle.lists.proofs.Place.{placing-start, placing-ahead, placing-behind, placing-count, placing-all}
@@ -53,8 +54,8 @@ loop-i-preserved c =
           (sym w.if-goes_ahead.false ∙ f),
     )) c.if-goes_ahead.branch-raw
 
-pub bounds-out-i-2 : goal.bounds-out-i-2
-bounds-out-i-2 c = let g = c.loop-i.invariant.3.filled.long in omega arith
+pub bounds-out-n : goal.bounds-out-n
+bounds-out-n c = let g = c.loop-i.invariant.3.filled.long in omega arith
 
 pub returns : goal.returns
 returns c =
@@ -63,6 +64,7 @@ returns c =
     let a = c.args.a in
     let v = l.invariant in
     let e : t.count ≡ l.i = omega arith in
-    entered-in limits a t _ _ v.0 (placing-all id_before limits.held_keys blank_key t.keys t.count a (omega arith) l.out
+    ap (λ (i : ℕ). record { keys = set l.out i l.carried; count = t.count + 1 }) e
+    ∙ entered-in limits a t _ _ v.0 (placing-all id_before limits.held_keys blank_key t.keys t.count a (omega arith) l.out
     l.carried l.placed l.i v.3 v.0 e) (placing-count id_before limits.held_keys blank_key t.keys t.count a
     (omega arith) l.out l.carried l.placed l.i v.3 v.0 e)

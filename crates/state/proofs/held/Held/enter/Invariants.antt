@@ -1,4 +1,4 @@
-use Prim.Native.Nat.{◌-◌, ◌≤◌, ◌<◌}
+use Prim.Native.Nat.{◌≤◌, ◌<◌}
 use mathlib.Core.Path.{◌≡◌}
 use lib.ListN.{length}
 use Rattle.state_keys.specs.Limits.{limits}
@@ -11,6 +11,3 @@ abbrev pub invariant-loop-i : goal.invariant-loop-i
 invariant-loop-i l =
     (l.n < limits.held_keys) × (length l.self.keys ≡ limits.held_keys) × (l.i ≤ l.n) × Placing id_before limits.held_keys blank_key
     l.self.keys l.n l.initial.carried l.out l.carried l.placed l.i
-
-abbrev pub decreases-loop-i : goal.decreases-loop-i
-decreases-loop-i l = l.n - l.i

@@ -1,17 +1,16 @@
-use mathlib.Core.Path.{sym, ◌∙◌}
+use Rattle.std.proofs.Common.{sym, ◌∙◌}
 use Rattle.state_keys.specs.Limits.{limits}
 use Rattle.state.proofs.Laws.{held-over, held-each, held-distinct}
 use Rattle.state.proofs.held.Held.is_formed.Goals as goal
 
-pub returns-then-self-gt-HELD_KEYS : goal.returns-then-self-gt-HELD_KEYS
-returns-then-self-gt-HELD_KEYS c = held-over limits c.args.self c.if-self-gt-HELD_KEYS.true
+pub returns-then-n-gt-HELD_KEYS : goal.returns-then-n-gt-HELD_KEYS
+returns-then-n-gt-HELD_KEYS c = held-over limits c.args.self c.if-n-gt-HELD_KEYS.true
 
-pub returns-then-each_formed : goal.returns-then-each_formed
-returns-then-each_formed c =
-    held-distinct limits c.args.self _ c.ids-ids.result c.if-self-gt-HELD_KEYS.false
-    (sym c.each_formed.ensures ∙ c.if-each_formed.true) c.ids-ids.ensures c.are_distinct.ensures
+pub returns-then-not-each_formed : goal.returns-then-not-each_formed
+returns-then-not-each_formed c =
+    held-each limits c.args.self c.if-n-gt-HELD_KEYS.false (sym c.each_formed.ensures ∙ c.if-not-each_formed.true)
 
 pub returns : goal.returns
 returns c =
-    held-each limits c.args.self c.if-self-gt-HELD_KEYS.false
-    (sym c.each_formed.ensures ∙ c.if-each_formed.false)
+    held-distinct limits c.args.self _ c.ids-ids.result c.if-n-gt-HELD_KEYS.false (sym c.each_formed.ensures ∙ c.if-not-each_formed.false)
+    c.ids-ids.ensures c.are_distinct.ensures

@@ -1,8 +1,9 @@
+use borrow.Author.Tests.{eq-eqb}
 use Rattle.state.proofs.Laws.{key-is, key-zero}
 use Rattle.state.proofs.held.HeldKey.is_formed.Goals as goal
 
-pub returns-then-self-eq0 : goal.returns-then-self-eq0
-returns-then-self-eq0 c = key-zero c.args.self c.if-self-eq0.true
+pub returns-then-self-ne0 : goal.returns-then-self-ne0
+returns-then-self-ne0 c = key-is c.args.self _ c.if-self-ne0.true c.is_size.ensures
 
-pub returns : goal.returns
-returns c = key-is c.args.self _ c.if-self-eq0.false c.is_size.ensures
+pub returns-else-self-ne0 : goal.returns-else-self-ne0
+returns-else-self-ne0 c = rw (eq-eqb _ _ c.if-self-ne0.false) (key-zero c.args.self c.if-self-ne0.false)

@@ -6,6 +6,6 @@ pub returns-then-is_size : goal.returns-then-is_size
 unfolding rekey_sizes
 returns-then-is_size c = let e = sym c.is_size.ensures ∙ c.if-is_size.true in rw e c.is_size-then-is_size.ensures
 
-pub returns : goal.returns
+pub returns-else-is_size : goal.returns-else-is_size
 unfolding rekey_sizes
-returns c = let e = sym c.is_size.ensures ∙ c.if-is_size.false in rw e
+returns-else-is_size c = let e = sym c.is_size.ensures ∙ c.if-is_size.false in rw (e, c.if-is_size.false)

@@ -1,19 +1,16 @@
+use native.Mathlib.Omega.{arith}
 use mathlib.Core.Path.{sym, ◌∙◌}
 use Rattle.state_keys.specs.Kinds.{wrapping_key}
 use Rattle.state_keys.proofs.Sizes.{wrapping-le}
-use Rattle.lists.proofs.Parts.{copied}
 use Rattle.state_keys.proofs.kinds.WrappingKey.new.Goals as goal
 
-pub copy-requires : goal.copy-requires
-copy-requires c = wrapping-le _ (sym c.is_size.ensures ∙ c.if-is_size.true)
-
-pub returns-then-is_size : goal.returns-then-is_size
+pub returns-then-not-is_size : goal.returns-then-not-is_size
 unfolding wrapping_key
-returns-then-is_size c =
-    let x = c.args.octets.now in
-    let e = sym c.is_size.ensures ∙ c.if-is_size.true in
-    simp e (rw (copied 32 x _ c.copy.ensures.1))
+returns-then-not-is_size c = let e = sym c.is_size.ensures ∙ c.if-not-is_size.true in rw e
+
+pub padded-requires : goal.padded-requires
+padded-requires c = (omega arith, wrapping-le _ (sym c.is_size.ensures ∙ c.if-not-is_size.false))
 
 pub returns : goal.returns
 unfolding wrapping_key
-returns c = let e = sym c.is_size.ensures ∙ c.if-is_size.false in simp e
+returns c = let e = sym c.is_size.ensures ∙ c.if-not-is_size.false in rw (e, c.padded.ensures)

@@ -1,12 +1,10 @@
-use Rattle.std.proofs.Common.{◌≡◌, length, ◌∙◌, arith, rules}
-use Rattle.state_sa.proofs.Laws.{esp-made}
+use Rattle.state_sa.specs.Entry.{make_sa, esp_protocol, esp_sa}
 use Rattle.state_sa.proofs.entry.Sa.esp.Goals as goal
 
-pub slice_bounds-copy-end-2 : goal.slice_bounds-copy-end-2
-slice_bounds-copy-end-2 c = let n : length c.args.key.octets ≡ 36 = search rules in omega arith
-
 pub returns : goal.returns
+unfolding esp_sa
 returns c =
     let a = c.args in
-    c.built.ensures ∙ esp-made a.spi.now _ _ a.key c.copy.ensures.1
-    c.copy-2.ensures.1 a.lifetime
+    let b = c.blank.ensures in
+    λ i. make_sa esp_protocol (c.padded.ensures i) (c.padded-2.ensures i) a.key.count (b i).encryption (b i).wrapping
+    (b i).condition a.lifetime

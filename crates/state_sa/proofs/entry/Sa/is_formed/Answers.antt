@@ -6,6 +6,6 @@ pub returns-then-is_sized : goal.returns-then-is_sized
 unfolding sa_formed
 returns-then-is_sized c = rw (sym c.is_sized.ensures ∙ c.if-is_sized.true) c.fit_lifetime.ensures
 
-pub returns : goal.returns
+pub returns-else-is_sized : goal.returns-else-is_sized
 unfolding sa_formed
-returns c = rw (sym c.is_sized.ensures ∙ c.if-is_sized.false)
+returns-else-is_sized c = rw (sym c.is_sized.ensures ∙ c.if-is_sized.false, c.if-is_sized.false)
