@@ -35,11 +35,10 @@ impl Collection {
     {
         let total = self.total;
         let n = self.count;
-        let pieces = self.pieces;
         2 <= total
             && total <= MOST_FRAGMENTS
             && 1 <= n
             && n < total
-            && are_pieces_fit(&pieces[..n], total, self.version)
+            && are_pieces_fit(&self.pieces[..n], total, self.version)
     }
 }

@@ -31,8 +31,7 @@ impl Collection {
         if f.number == 1 {
             return f;
         }
-        let pieces = self.pieces;
-        if has_number(&pieces[..n], 1) {
+        if has_number(&self.pieces[..n], 1) {
             Names {
                 version: self.version,
                 flags: self.flags,
@@ -55,8 +54,7 @@ impl Collection {
         requires taking { Taking (counted self) f piece.now n }
         ensures { result ≡ collection_of (gathered (counted self) f piece.now) }
     {
-        let all = self.pieces;
-        let kept = &all[..n];
+        let kept = &self.pieces[..n];
         let ahead = pieces_ahead(kept, f.number);
         let before = frame_octets(&kept[..ahead]) - HEADER;
         let size = frame_octets(kept) - HEADER;

@@ -41,9 +41,7 @@ impl Collection {
     fn is_of_rekey(self, f: Names) -> bool
         ensures { result ≡ (sameRuns self.spis f.spis && eqb self.id f.id) }
     {
-        let own = self.spis;
-        let its = f.spis;
-        same(&own, &its) && self.id == f.id
+        same(&self.spis, &f.spis) && self.id == f.id
     }
 
     // Tells the fragment's case by its names.
@@ -52,9 +50,7 @@ impl Collection {
         ensures { result ≡ case_of (counted self) f }
     {
         if self.is_fit() && self.is_of_rekey(f) {
-            let pieces = self.pieces;
-            let n = self.count;
-            return case_within(&pieces[..n], self.total, f.number, f.total);
+            return case_within(&self.pieces[..self.count], self.total, f.number, f.total);
         }
         Case::Anew
     }
@@ -69,10 +65,8 @@ impl Collection {
             Case::Anew => by_size(HEADER, size, 0),
             Case::PassedOver => Placed::Passed,
             Case::Kept => {
-                let pieces = self.pieces;
-                let n = self.count;
-                let octets = frame_octets(&pieces[..n]);
-                by_size(octets, size, n)
+                let octets = frame_octets(&self.pieces[..self.count]);
+                by_size(octets, size, self.count)
             }
         }
     }

@@ -80,9 +80,7 @@ impl Collection {
         requires most_octets_in_bounds { most_octets ≤ length room.old }
         ensures { (w : Waiting) → self ≡ collection_of w → WholeWritten w room.old result room.new }
     {
-        let pieces = self.pieces;
-        let n = self.count;
-        let size = frame_octets(&pieces[..n]);
+        let size = frame_octets(&self.pieces[..self.count]);
         let h = self.make_header(size);
         put_frame(&h, &self.octets, size, room);
         size

@@ -1,22 +1,15 @@
 use native.Mathlib.Omega.{arith}
 use mathlib.Core.Path.{sym, ◌∙◌}
-use Rattle.std.proofs.lemmas.List.{length-take-le}
 use Rattle.fragments.proofs.FitLaws.{fit_is}
 use Rattle.fragments.proofs.PlaceLaws.{case_same, case-other, case-unfit}
 use Rattle.fragments.proofs.Collection.case.Goals as goal
 use Rattle.fragments.proofs.Collection.case.Goals.{else-is_fit-via-then-is_fit+else-is_of_rekey, else-is_fit-via-else-is_fit}
 
-pub slice_bounds-pieces-end : goal.slice_bounds-pieces-end
-slice_bounds-pieces-end c =
+pub shared_ref_as_front-case_within : goal.shared_ref_as_front-case_within
+shared_ref_as_front-case_within c =
     let a = c.args.self in
     let f = fit_is a (sym c.is_fit.ensures ∙ c.if-is_fit.true) in
     omega (arith, f.some-lacks, f.total-most)
-
-pub slice_bounds-case_within-end : goal.slice_bounds-case_within-end
-slice_bounds-case_within-end c =
-    let a = c.args.self in
-    let f = fit_is a (sym c.is_fit.ensures ∙ c.if-is_fit.true) in
-    sym (length-take-le a.count a.pieces (omega (arith, f.some-lacks, f.total-most)))
 
 pub returns-then-is_of_rekey : goal.returns-then-is_of_rekey
 returns-then-is_of_rekey c =

@@ -1,24 +1,18 @@
 use native.Mathlib.Omega.{arith}
 use Prim.Native.Nat.{ℕ, ◌-◌}
-use mathlib.Core.Path.{refl, sym}
+use mathlib.Core.Path.{refl}
 use lib.ListN.{replicate, length-replicate}
 use Rattle.ikev2_numbers.specs.Codes.{header_octets, most_octets}
 use Rattle.fragments.specs.inner.FitWaiting.{LongCollection}
 use Rattle.fragments.proofs.GatherLaws.{few, count-is, size_is, before-is, joins, gathers}
 use Rattle.fragments.proofs.Collection.gather.Goals as goal
 
-pub slice_bounds-all-end : goal.slice_bounds-all-end
-slice_bounds-all-end c =
+pub shared_ref_as_front-kept : goal.shared_ref_as_front-kept
+shared_ref_as_front-kept c =
     let a = c.args.self in
     let long : LongCollection a = record { spis-size = omega arith; pieces-size = omega arith; octets-size = omega arith } in
     let h = few a c.args.f long c.requires.le_total c.args.piece.now c.args.n c.requires.taking in
     omega arith
-
-pub slice_bounds-kept-end : goal.slice_bounds-kept-end
-slice_bounds-kept-end c =
-    let a = c.args.self in
-    let long : LongCollection a = record { spis-size = omega arith; pieces-size = omega arith; octets-size = omega arith } in
-    sym (count-is a c.args.f long c.requires.le_total c.args.piece.now c.args.n c.requires.taking)
 
 pub with_piece-pieces-requires : goal.with_piece-pieces-requires
 with_piece-pieces-requires c =

@@ -1,20 +1,14 @@
 use native.Mathlib.Omega.{arith}
 use mathlib.Core.Path.{sym, ◌∙◌}
-use Rattle.std.proofs.lemmas.List.{length-take-le}
 use Rattle.fragments.specs.Collection.{counted}
 use Rattle.fragments.specs.inner.FitWaiting.{LongCollection}
 use Rattle.fragments.proofs.PlaceLaws.{told-anew, kept-few, kept_small, told-kept}
 use Rattle.fragments.proofs.Collection.place.Goals as goal
 
-pub slice_bounds-pieces-end : goal.slice_bounds-pieces-end
-slice_bounds-pieces-end c =
+pub shared_ref_as_front-frame_octets : goal.shared_ref_as_front-frame_octets
+shared_ref_as_front-frame_octets c =
     let a = c.args.self in
     omega (arith, kept-few a c.args.f c.requires (sym c.in-Kept.is ∙ c.case-case.ensures))
-
-pub slice_bounds-frame_octets-end : goal.slice_bounds-frame_octets-end
-slice_bounds-frame_octets-end c =
-    let a = c.args.self in
-    sym (length-take-le a.count a.pieces (omega (arith, kept-few a c.args.f c.requires (sym c.in-Kept.is ∙ c.case-case.ensures))))
 
 pub by_size-requires-in-Kept : goal.by_size-requires-in-Kept
 by_size-requires-in-Kept c =

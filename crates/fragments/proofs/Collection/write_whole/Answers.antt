@@ -1,22 +1,15 @@
 use native.Mathlib.Omega.{arith}
-use mathlib.Core.Path.{◌≡◌, sym}
+use mathlib.Core.Path.{◌≡◌}
 use lib.ListN.{length}
-use Rattle.std.proofs.lemmas.List.{length-take-le}
 use Rattle.ikev2_numbers.specs.Codes.{rekey_spi_octets}
 use Rattle.fragments.proofs.WriteLaws.{few-held, size-counted, small-counted, written}
 use Rattle.fragments.proofs.Collection.write_whole.Goals as goal
 
-pub slice_bounds-pieces-end : goal.slice_bounds-pieces-end
-slice_bounds-pieces-end c =
+pub shared_ref_as_front-frame_octets : goal.shared_ref_as_front-frame_octets
+shared_ref_as_front-frame_octets c =
     let a = c.args.self in
     let few = few-held a c.requires.holding.0 c.requires.holding.1 in
     omega arith
-
-pub slice_bounds-frame_octets-end : goal.slice_bounds-frame_octets-end
-slice_bounds-frame_octets-end c =
-    let a = c.args.self in
-    let few = few-held a c.requires.holding.0 c.requires.holding.1 in
-    sym (length-take-le a.count a.pieces (omega arith))
 
 pub make_header-h-requires : goal.make_header-h-requires
 make_header-h-requires c =
