@@ -1,5 +1,5 @@
 // The held list after a path. Document 02, T-11: "After acceptance the fresh path goes before the held key it ends on".
-ghost use Rattle.std.specs.Prelude.{◌≡◌, true, not, ◌&&◌, ◌||◌, List, map, ℕ, ◌-◌, ◌≤◌, ◌<◌, eqb, length, take};
+ghost use Rattle.std.specs.Prelude.{◌≡◌, true, not, ◌&&◌, List, map, ℕ, ◌-◌, ◌≤◌, ◌<◌, length, take};
 ghost use Rattle.octets.specs.Numbers.{oct};
 ghost use Rattle.state_keys.specs.Limits.{limits};
 ghost use Rattle.state.specs.Held.{keys_of, held_of, held_formed};
@@ -18,7 +18,8 @@ use state::held::{Held, HeldKey};
 use state_keys::kinds::WrappingKey;
 use state_keys::limits::HELD_KEYS;
 
-// The list that a path leaves. `over` says that it has more keys than a held list may have; `held` is then the old list.
+// The list that a path leaves. `over` says that it has more keys than a held list may have; `held` is then the old list. Kept as a flag
+// behind the list: behind the mark of an `Option` the compiler gives an array that is handed on more room (docs/landings/T-11.md).
 #[derive(Clone, Copy)]
 pub struct PathHeld {
     pub held: Held,

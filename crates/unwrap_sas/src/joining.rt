@@ -12,7 +12,7 @@ use state_keys::kinds::{EspKey, RekeyKey};
 use state_keys::limits::ESP_POLICIES;
 use state_keys::rooms::SA_OCTETS;
 use state_sa::entry::{Lifetime, Sa};
-use unwrap_copies::answer::{Copied, Openers, no_openers};
+use unwrap_copies::answer::{Copied, CopyFound, Openers, no_openers};
 
 // Room for the SAs that a frame announces: as many ESP SAs as it may have, and a Rekey SA.
 pub const NEW_SAS: usize = ESP_POLICIES + 1;
@@ -27,8 +27,8 @@ pub enum SasFault {
 }
 
 // The result for all SAs that a frame announces. If each has its key, the new SAs are the first `count` of `sas`, and `openers` are the KWK
-// IDs of the copies of the Rekey SA's key that open. Kept as arrays with the result behind them: behind the mark of a `Result` an array that
-// is handed on takes one `receive` 6 kB of stack more (docs/landings/T-11.md).
+// IDs of the copies of the Rekey SA's key that open. Kept as arrays with the result behind them: behind a mark the compiler gives an array
+// that is handed on more room (docs/landings/T-11.md).
 #[derive(Clone, Copy)]
 pub struct Keyed {
     pub sas: [Sa; NEW_SAS],
@@ -40,13 +40,13 @@ pub struct Keyed {
 // The result for one SA. With `Key`, `sa` is the SA and `openers` are the KWK IDs of its copies that open; else `sa` is blank.
 #[derive(Clone, Copy)]
 pub struct One {
-    pub found: unwrap_copies::answer::CopyFound,
+    pub found: CopyFound,
     pub sa: Sa,
     pub openers: Openers,
 }
 
 // Makes a result with a blank SA.
-fn one_without(found: unwrap_copies::answer::CopyFound) -> One
+fn one_without(found: CopyFound) -> One
     ensures { result.found ≡ found }
 {
     let sa = Sa::blank();
@@ -95,18 +95,14 @@ pub fn one_sa(
     let opened = one.opened;
     let found = opened.found;
     match found {
-        unwrap_copies::answer::CopyFound::Conflict => one_without(
-            unwrap_copies::answer::CopyFound::Conflict,
-        ),
-        unwrap_copies::answer::CopyFound::Nothing => one_without(
-            unwrap_copies::answer::CopyFound::Nothing,
-        ),
-        unwrap_copies::answer::CopyFound::Key => {
+        CopyFound::Conflict => one_without(CopyFound::Conflict),
+        CopyFound::Nothing => one_without(CopyFound::Nothing),
+        CopyFound::Key => {
             let octets = opened.octets;
             let openers = one.openers;
             let sa = sa_from(protocol, spi, encryption, wrapping, octets, lifetime);
             One {
-                found: unwrap_copies::answer::CopyFound::Key,
+                found: CopyFound::Key,
                 sa,
                 openers,
             }

@@ -16,28 +16,21 @@ slice_bounds-expand_inverse-end c =
     let e : length c.args.zero.octets ≡ key_octets = search rules in
     key-count c.args.zero e c.requires.count_value
 
-pub expand_inverse-requires : goal.expand_inverse-requires
-expand_inverse-requires c =
-    let e : length c.args.zero.octets ≡ key_octets = search rules in
-    record {
-      tables_value = c.inverse_tables-tables.ensures;
-      t = key_fits c.args.zero e c.requires.count_value;
-    }
+pub expand_inverse-schedule-requires-clause-t : goal.expand_inverse-schedule-requires-clause-t
+expand_inverse-schedule-requires-clause-t c =
+    let e : length c.args.zero.octets ≡ key_octets = search rules in key_fits c.args.zero e c.requires.count_value
 
-pub walk_policies-requires : goal.walk_policies-requires
-walk_policies-requires c =
-    let p = c.requires in
-    let t = c.inverse_tables-tables.ensures in
+pub walk-requires-clause-opens_by : goal.walk-requires-clause-opens_by
+walk-requires-clause-opens_by c =
     record {
-      gsa_value = p.gsa_value;
-      kd_value = p.kd_value;
-      tables_value = (t, record { key = value_of c.args.zero; expands = c.expand_inverse.ensures });
-      lends_two = p.lends_two;
-      checks_passed = p.checks_passed;
+      whole = c.requires.kd_value;
+      tables-is = c.inverse_tables-tables.ensures;
+      expanded = record { key = value_of c.args.zero; expands = c.expand_inverse-schedule.ensures };
+      lends = c.requires.lends_two;
     }
 
 pub returns : goal.returns
 returns c roots entries size f new old y lends agrees =
     let a = c.args in
-    c.walk_policies.ensures roots entries size f y
-    (record { zero = a.zero; new = new; old = old; expands = c.expand_inverse.ensures; lends = lends; agrees = agrees })
+    c.walk.ensures roots entries size f y
+    (record { zero = a.zero; new = new; old = old; expands = c.expand_inverse-schedule.ensures; lends = lends; agrees = agrees })

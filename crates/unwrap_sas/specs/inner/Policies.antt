@@ -10,7 +10,10 @@ use Rattle.wire_policies.specs.Policy.{spi_size, GroupSaPolicy, SaBody}
 use Rattle.wire_frames.specs.Frame.{Frame}
 use Rattle.state_sa.specs.declared.entry.Lifetime.{Lifetime}
 use Rattle.state_sa.specs.declared.entry.Sa.{Sa}
-use Rattle.aes.specs.inner.Schedule.{ExpandsInverse}
+use Rattle.aes.specs.inner.Tables.{decipher_tables}
+use Rattle.aes.specs.inner.Schedule.{ExpandsInverse, ExpandedInverse}
+use Rattle.wire_bags.specs.Bag.{bags}
+use Rattle.wire_readers.specs.inner.Values.{is_whole}
 use Rattle.wire_policies.specs.Grammar.{IsSaBody}
 use Rattle.wire_readers.specs.inner.Bags.{bags_in}
 use Rattle.wire_readers.specs.declared.policy.Parts.{Parts}
@@ -100,6 +103,13 @@ pub record PolicyStandsAt (g : List ℕ) (at : ℕ) (p : Parts) : Type 0 where
   pub order : p.body ≤ p.end
   pub inside : at + p.end ≤ length g
   pub small : length (body_at g at p) < 65536
+
+-- the KD body is whole, the tables and the schedule are those of some key, and keys are lent
+pub record OpensBy (reads : Bool) (kd tables schedule carried fresh ids block : List ℕ) : Type 0 where
+  pub whole : is_whole (bags reads 0 kd) ≡ true
+  pub tables-is : tables ≡ decipher_tables
+  pub expanded : ExpandedInverse schedule
+  pub lends : (new : List HeldKey) × (old : List HeldKey) × LendsTwo new old carried fresh ids block
 
 -- chains end on exactly key 0 and the keys that are lent: `schedule` is that of key 0; `carried` and `fresh` lend the frame's own keys,
 -- `ids` and `block` the held ones
