@@ -61,7 +61,8 @@ pub struct Schedule {
     pub words: [u32; SCHEDULE_WORDS],
 }
 
-// The schedule for `decrypt`: the same with the round keys of the equivalent inverse cipher.
+// The schedule for `decrypt`: the same with the round keys of the equivalent inverse cipher. A type of its own, since a schedule of one kind
+// in the place of the other would be another key.
 #[derive(Clone, Copy)]
 pub struct InverseSchedule {
     pub words: [u32; SCHEDULE_WORDS],

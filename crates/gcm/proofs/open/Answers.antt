@@ -45,12 +45,6 @@ returns-then-n-gt-MOST_TEXT c =
       room-is = refl;
     }
 
-pub returns-then-a-gt-MOST_DATA : goal.returns-then-a-gt-MOST_DATA
-returns-then-a-gt-MOST_DATA c = record { none = λ x h. omega (arith, h.supported.data-most, c.if-a-gt-MOST_DATA.true); room-is = refl }
-
-pub returns-then-nonce-ne-NONCE_OCTETS : goal.returns-then-nonce-ne-NONCE_OCTETS
-returns-then-nonce-ne-NONCE_OCTETS c = record { none = λ x h. c.if-nonce-ne-NONCE_OCTETS.true h.supported.nonce-size; room-is = refl }
-
 pub expand-schedule-requires : goal.expand-schedule-requires
 expand-schedule-requires c =
     record {

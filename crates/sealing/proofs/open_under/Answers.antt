@@ -32,12 +32,6 @@ write_opened-requires c =
       nonce_len = (c.requires.nonce_len.0, b, f.most, omega (arith, b, f.most, c.if-room-lt-MOST_OCTETS.false));
     }
 
-pub overflow_add-result : goal.overflow_add-result
-overflow_add-result c =
-    let f = outer-is c.args.frame.now c.requires.nonce_len.1 in
-    let b = c.in_ok-p.ensures.0 in
-    omega (arith, b, f.most)
-
 pub returns-in_err-p : goal.returns-in_err-p
 returns-in_err-p c =
     λ part en e.

@@ -14,12 +14,6 @@ pub loop-n-init : goal.loop-n-init
 unfolding pair_number
 loop-n-init c = record { most = omega arith; is = λ y m. no_bits (pair_number c.args.x) y }
 
-pub digit_at-d-requires : goal.digit_at-d-requires
-digit_at-d-requires c = omega arith
-
-pub step-z-requires : goal.step-z-requires
-step-z-requires c = (c.digit_at-d.ensures.1, c.requires)
-
 pub loop-n-preserved : goal.loop-n-preserved
 loop-n-preserved c =
     let a = c.args in

@@ -10,17 +10,11 @@ use Rattle.gcm.proofs.stream.add_block.Goals as goal
 pub loop-i-init : goal.loop-i-init
 loop-i-init c = let a = c.args in nothing_put (masked a.m a.c.now a.at) a.at a.room.now
 
-pub bounds-room-i : goal.bounds-room-i
-bounds-room-i c = omega (arith, c.loop-i.invariant.size)
-
 pub loop-i-preserved : goal.loop-i-preserved
 unfolding masked
 loop-i-preserved c =
     let a = c.args in
     one-put (masked a.m a.c.now a.at) a.at a.room.now (omega arith) (omega arith) refl c.loop-i.invariant
-
-pub shape_of-room : goal.shape_of-room
-shape_of-room c = c.loop-i.invariant.size
 
 pub returns : goal.returns
 returns c =

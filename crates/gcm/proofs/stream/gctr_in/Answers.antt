@@ -18,17 +18,6 @@ loop-i-init c =
       puts = λ key e. none-put a.nonce.now c.requires.nonce_len.0 key a.c.now a.room.now;
     }
 
-pub encipher_counter-m-requires : goal.encipher_counter-m-requires
-encipher_counter-m-requires c =
-    record {
-      tables_value = c.requires.tables_value;
-      nonce_len = (c.requires.nonce_len.0, omega arith);
-    }
-
-pub add_block-requires : goal.add_block-requires
-add_block-requires c =
-    (omega arith, omega arith, omega arith, omega (arith, c.loop-i.invariant.size))
-
 pub loop-i-preserved : goal.loop-i-preserved
 loop-i-preserved c =
     let a = c.args in
@@ -43,17 +32,6 @@ loop-i-preserved c =
           (c.block_of.ensures ∙ c.encipher_counter-m.ensures key e) (c.loop-i.invariant.puts key e) c.add_block.ensures);
     }
 
-pub encipher_counter-m-requires-then-at-c : goal.encipher_counter-m-requires-then-at-c
-encipher_counter-m-requires-then-at-c c =
-    record {
-      tables_value = c.requires.tables_value;
-      nonce_len = (c.requires.nonce_len.0, omega arith);
-    }
-
-pub add_block-requires-then-at-c : goal.add_block-requires-then-at-c
-add_block-requires-then-at-c c =
-    (omega arith, omega arith, omega arith, omega (arith, c.loop-i.invariant.size))
-
 pub shape_of-room-then-at-c : goal.shape_of-room-then-at-c
 shape_of-room-then-at-c c =
     c.add_block-then-at-c.ensures.size ∙ c.loop-i.invariant.size
@@ -67,9 +45,6 @@ returns-then-at-c c = λ key e.
     all-put a.nonce.now c.requires.nonce_len.0 key a.c.now a.room.now c.requires.nonce_len.1 refl
     (more-put a.nonce.now c.requires.nonce_len.0 key a.c.now a.room.now (omega arith) v.count (omega arith) (omega arith)
     (c.block_of-then-at-c.ensures ∙ c.encipher_counter-m-then-at-c.ensures key e) (v.puts key e) c.add_block-then-at-c.ensures)
-
-pub shape_of-room-else-at-c : goal.shape_of-room-else-at-c
-shape_of-room-else-at-c c = c.loop-i.invariant.size
 
 pub returns-else-at-c : goal.returns-else-at-c
 returns-else-at-c c = λ key e.

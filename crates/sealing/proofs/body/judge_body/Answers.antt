@@ -1,9 +1,6 @@
 use mathlib.Core.Path.{◌∙◌}
-use Prim.Native.Nat.{◌+◌, ◌-◌}
 use native.Mathlib.Omega.{arith}
-use lib.ListN.{length}
 use Rattle.rfc5282.specs.Keys.{aes_key_of}
-use Rattle.sealing.proofs.CopyLaws.{part-size}
 use Rattle.sealing.proofs.UnderLaws.{too_short, not-tagged, unpadded, unpadded-bounds}
 use Rattle.sealing.proofs.body.judge_body.Goals as goal
 
@@ -12,26 +9,6 @@ use Rattle.sealing.proofs.body.judge_body.Goals as goal
 pub returns-then-n-least : goal.returns-then-n-least
 returns-then-n-least c =
     (tt, λ part en e. too_short c.args.at part c.args.frame.now c.requires.nonce_len.1 c.if-n-least.true)
-
-pub verify_tag-requires : goal.verify_tag-requires
-verify_tag-requires c =
-    let t = c.args.frame.now in
-    let x = part-size t 0 c.args.at c.requires.nonce_len.1 in
-    let y = part-size t (c.args.at + 8) (length t) (omega arith) in
-    record {
-      tables_value = c.requires.tables_value;
-      nonce_len = (c.requires.nonce_len.0, omega (arith, x));
-      tag_octets_in_bounds = (omega (arith, y), omega (arith, y));
-    }
-
-pub gctr_at-requires : goal.gctr_at-requires
-gctr_at-requires c =
-    let t = c.args.frame.now in
-    let y = part-size t (c.args.at + 8) (length t - 16) (omega arith) in
-    record {
-      tables_value = c.requires.tables_value;
-      nonce_len = (c.requires.nonce_len.0, omega (arith, y), omega (arith, y));
-    }
 
 pub returns-then-not-verify_tag : goal.returns-then-not-verify_tag
 returns-then-not-verify_tag c =
