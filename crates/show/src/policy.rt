@@ -32,16 +32,16 @@ pub(crate) fn put_policies(w: &mut impl Write, f: Shown, from: usize, to: usize)
 fn put_whole(w: &mut impl Write, f: Shown, from: usize, to: usize) -> fmt::Result {
     let p = f.part(from, to);
     match wire_view::shown_kind(p) {
-        Kind::GroupSa(protocol) => {
+        Some(Kind::GroupSa(protocol)) => {
             put_protocol_and_spi(w, "policy", protocol, wire_view::shown_spi(p))?;
             let head = POLICY_HEAD + wire_policies::spi_size(protocol);
             put_items(w, in_policy(protocol), f, from, to, head)
         }
-        Kind::GroupWide => {
+        Some(Kind::GroupWide) => {
             writeln!(w, "group-wide policy")?;
             put_items(w, Place::GroupWidePolicy, f, from, to, POLICY_HEAD)
         }
-        Kind::Nothing => writeln!(w, "nothing to show"),
+        None => writeln!(w, "nothing to show"),
     }
 }
 
@@ -56,10 +56,9 @@ fn put_items(
 ) -> fmt::Result {
     let p = f.part(from, to);
     let mut at = from.saturating_add(head);
-    let mut cursor = 0;
-    for _ in 0..f.octets.len() {
-        let step = wire_view::shown_step(p, cursor);
-        at = match step.item {
+    let mut first = true;
+    for item in wire_view::new(p) {
+        at = match item {
             Item::Selector {
                 protocol,
                 start_port,
@@ -69,7 +68,7 @@ fn put_items(
                 ..
             } => {
                 let next = from.saturating_add(end);
-                put_selector_head(w, cursor == 0, at, next)?;
+                put_selector_head(w, first, at, next)?;
                 put_addresses(w, part(p, start, end))?;
                 put_ports(w, protocol, start_port, end_port)?;
                 next
@@ -97,9 +96,8 @@ fn put_items(
                 )?;
                 next
             }
-            Item::Nothing => return Ok(()),
         };
-        cursor = step.next;
+        first = false;
     }
     Ok(())
 }

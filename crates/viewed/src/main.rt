@@ -9,48 +9,42 @@ fn print(rt: &impl Print, text: &[u8]) {
     let _ = rt.write_all(text);
 }
 
-// Prints a word for `item`. Answers whether there is one.
-fn print_name(rt: &impl Print, item: Item) -> bool {
+// Prints a word for `item`.
+fn print_name(rt: &impl Print, item: Item) {
     match item {
         Item::Selector { .. } => print(rt, b"selector "),
         Item::Transform { .. } => print(rt, b"transform "),
         Item::Attribute { .. } => print(rt, b"attribute "),
-        Item::Nothing => {
-            return false;
-        }
     }
-    true
 }
 
 // Walks through the policy `s` by `shown_step`. Answers how many items it came by.
 fn by_steps(rt: &impl Print, s: &[u8]) -> usize {
-    let mut n = 0;
     let mut at = 0;
-    while n < s.len() {
+    for n in 0..s.len() {
         let step = wire_view::shown_step(s, at);
-        let item = step.item;
-        if !print_name(rt, item) {
+        let Some(item) = step.item else {
             return n;
-        }
+        };
+        print_name(rt, item);
         at = step.next;
-        n += 1;
     }
-    n
+    s.len()
 }
 
 // Walks through the policy `s` by `shown_end`, `shown` and `shown_next`. Answers how many items it came by.
 fn by_moves(rt: &impl Print, s: &[u8]) -> usize {
-    let mut n = 0;
     let mut at = 0;
-    while n < s.len() {
+    for n in 0..s.len() {
         if wire_view::shown_end(s, at) {
             return n;
         }
-        print_name(rt, wire_view::shown(s, at));
+        if let Some(item) = wire_view::shown(s, at) {
+            print_name(rt, item);
+        }
         at = wire_view::shown_next(s, at);
-        n += 1;
     }
-    n
+    s.len()
 }
 
 fn print_count(rt: &impl Print, n: usize) {

@@ -162,11 +162,6 @@ module _ (p : Place) (s : List ℕ) (x : SaBody) (i : IsSaBody p s x) (d : ℕ) 
     source-size.1,
   )
 
-  pub destination-there : d < length s
-  destination-there =
-      let f = selector-size-is i.destination i.after x.destination i.to in
-      omega (arith, all-octets, f.0)
-
   module _ (e : ℕ) (eq : e ≡ selector_size (oct s d)) where
     destination-size : length i.destination ≡ e
     destination-size =

@@ -1,4 +1,5 @@
 -- What a view shows, computed: a transform with two Key Lengths, an empty group-wide policy, octets that are no policy.
+use Rattle.std.specs.Prelude.{Option, Some, None}
 use Prim.Native.Nat.{ℕ}
 use mathlib.Core.Path.{◌≡◌, refl}
 use mathlib.Core.List.{List, [], ◌∷◌, ◌++◌, map}
@@ -20,7 +21,7 @@ use Rattle.wire_view.specs.declared.read.Kind.TheVariants as kind
 
 -- what each call answers of a view of some octets: which policy, its SPI and where it starts, all that is shown
 pub record Shown : Type 0 where
-  pub kind : Kind
+  pub kind : Option Kind
   pub first : List ℕ
   pub spi : List ℕ
   pub start : ℕ
@@ -30,7 +31,7 @@ abbrev shown : List ℕ → Shown
 shown s = record { kind = shown_kind s; first = first_octet (shown_kind s); spi = shown_spi s; start = spi_start s; items = shown_items s }
 
 abbrev nothing : Shown
-nothing = record { kind = kind.Nothing; first = []; spi = []; start = 0; items = [] }
+nothing = record { kind = None; first = []; spi = []; start = 0; items = [] }
 
 -- the selector of 239.1.2.3, UDP, port 848
 abbrev ip4 : List ℕ
@@ -47,7 +48,7 @@ esp =
     (0 ∷ 0 ∷ 0 ∷ 16 ∷ 1 ∷ 0 ∷ 0 ∷ 20 ∷ 128 ∷ 14 ∷ 0 ∷ 128 ∷ 128 ∷ 14 ∷ 1 ∷ 0 ∷ 0 ∷ 1 ∷ 0 ∷ 4 ∷ 0 ∷ 0 ∷ 14 ∷ 16 ∷ [])))
 
 two-key-lengths : shown esp ≡ record {
-  kind = kind.GroupSa 3;
+  kind = Some (kind.GroupSa 3);
   first = 3 ∷ [];
   spi = 9 ∷ 8 ∷ 7 ∷ 6 ∷ [];
   start = 4;
@@ -63,7 +64,7 @@ two-key-lengths = refl
 steps : (shown_in 9 esp 0 ≡ shown_items esp)
     × (map (next_after esp) (0 ∷ 97 ∷ 162 ∷ 227 ∷ 259 ∷ []) ≡ 97 ∷ 162 ∷ 227 ∷ 259 ∷ 259 ∷ [])
     × (map (is_at_end esp) (0 ∷ 97 ∷ 162 ∷ 227 ∷ 259 ∷ []) ≡ false ∷ false ∷ false ∷ false ∷ true ∷ [])
-    × (item_at esp 162 ≡ item.Transform 1 20 2 128)
+    × (item_at esp 162 ≡ Some (item.Transform 1 20 2 128))
 unfolding policy suite sa_body selector transform attribute many chain chain_up_to number values_of attributes_span shown_attributes shown_in
 steps = (refl, refl, refl, refl)
 
@@ -73,7 +74,7 @@ two_transforms =
     (3 ∷ 4 ∷ 0 ∷ 56 ∷ 9 ∷ 8 ∷ 7 ∷ 6 ∷ []) ++ (ip4 ++ (ip4 ++
     (3 ∷ 0 ∷ 0 ∷ 8 ∷ 1 ∷ 0 ∷ 0 ∷ 20 ∷ 0 ∷ 0 ∷ 0 ∷ 8 ∷ 5 ∷ 0 ∷ 0 ∷ 2 ∷ [])))
 
-two-transforms : (map (next_after two_transforms) (162 ∷ 194 ∷ []) ≡ 194 ∷ 227 ∷ []) × (item_at two_transforms 194 ≡ item.Transform 5 2 0 0)
+two-transforms : (map (next_after two_transforms) (162 ∷ 194 ∷ []) ≡ 194 ∷ 227 ∷ []) × (item_at two_transforms 194 ≡ Some (item.Transform 5 2 0 0))
 unfolding transform attribute many chain chain_up_to number values_of
 two-transforms = (refl, refl)
 
@@ -82,12 +83,12 @@ nowhere : map (step_at esp) (41 ∷ 257 ∷ 258 ∷ 9999 ∷ []) ≡ map stay_st
 unfolding selector transform attribute number
 nowhere = refl
 
-elsewhere : item_at esp 163 ≡ item.Attribute meaning.Skipped false 0 44 60
+elsewhere : item_at esp 163 ≡ Some (item.Attribute meaning.Skipped false 0 44 60)
 unfolding attribute number
 elsewhere = refl
 
 -- group-wide policies: an empty one shows nothing and is at its end at once; one with a delay of 5
-wide : (shown (0 ∷ 9 ∷ 0 ∷ 4 ∷ []) ≡ record { kind = kind.GroupWide; first = 0 ∷ []; spi = []; start = 0; items = [] })
+wide : (shown (0 ∷ 9 ∷ 0 ∷ 4 ∷ []) ≡ record { kind = Some kind.GroupWide; first = 0 ∷ []; spi = []; start = 0; items = [] })
     × (step_at (0 ∷ 9 ∷ 0 ∷ 4 ∷ []) 0 ≡ stay_step 0) × (is_at_end (0 ∷ 9 ∷ 0 ∷ 4 ∷ []) 0 ≡ true)
     × (shown_items (0 ∷ 9 ∷ 0 ∷ 8 ∷ 128 ∷ 2 ∷ 0 ∷ 5 ∷ []) ≡ item.Attribute meaning.DeactivationDelay true 2 6 8 ∷ [])
     × (map (next_after (0 ∷ 9 ∷ 0 ∷ 8 ∷ 128 ∷ 2 ∷ 0 ∷ 5 ∷ [])) (0 ∷ 19 ∷ 35 ∷ []) ≡ 35 ∷ 35 ∷ 35 ∷ [])

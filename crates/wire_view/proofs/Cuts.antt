@@ -24,12 +24,11 @@ use Rattle.wire_view.proofs.AttributeLaws.{of_format, row-octets}
 use Rattle.wire_view.proofs.SelectorLaws.{selector-room}
 use Rattle.wire_view.proofs.KindLaws.{sa-items, wide-items}
 
--- what is cut out of the octets for an item; a transform and nothing have no stretch
+-- what is cut out of the octets for an item; a transform has no stretch
 abbrev pub stretch : List ℕ → Item → List ℕ
 stretch s (item.Selector k p a b start end) = part s start end
 stretch s (item.Transform k i n f) = []
 stretch s (item.Attribute m t k start end) = part s start end
-stretch s item.Nothing = []
 
 abbrev pub addresses : Selector → List ℕ
 addresses x = x.start_address ++ x.end_address

@@ -1,12 +1,14 @@
 -- Octets that are one policy to their end: which it is, its SPI and what it shows.
-use Rattle.std.specs.Prelude.{Ok}
-use Prim.Native.Nat.{ℕ, ◌+◌, ◌<◌, ◌≤◌}
+use Rattle.std.specs.Prelude.{Result, Ok, Err, Option, Some, None}
+use Rattle.std.specs.Result.{result_ok}
+use Prim.Native.Nat.{ℕ, ◌+◌, ◌≤◌}
 use mathlib.Core.Path.{◌≡◌, refl, ap, sym, ◌∙◌, subst}
 use mathlib.Core.List.{List, [], ◌∷◌, ◌++◌, map, append-nil}
 use mathlib.Core.Bool.{Bool, true, false, cond, ◌&&◌}
 use native.Mathlib.Omega.{arith}
-use borrow.Author.Tests.{le-leb, eq-eqb, ne_eqb}
-use lib.Dec.{eqb}
+use borrow.Author.Tests.{le-leb, eq-eqb, eqb-true, ne_eqb}
+use Rattle.lists.proofs.Cases.{and_parts}
+use lib.Dec.{leb, eqb}
 use lib.ListN.{length, drop}
 use lib.Seq.{drop-length}
 use Rattle.octets.specs.Numbers.{oct}
@@ -16,9 +18,9 @@ use Rattle.wire_attributes.specs.Attribute.{Attribute}
 use Rattle.wire_attributes.specs.Place.{in_policy}
 use Rattle.wire_attributes.specs.Tree.{initial_message_ids, deactivation_delays, key_lifetimes}
 use Rattle.wire_attributes.specs.Layout.{attributes}
-use Rattle.wire_attributes.specs.Answers.{broken_at, spot_of}
+use Rattle.wire_attributes.specs.Answers.{spot_of}
 use Rattle.wire_attributes.specs.declared.tables.Place.TheVariants as place
-use Rattle.wire_attributes.proofs.Loops.{ended, spot-broken}
+use Rattle.wire_attributes.proofs.Loops.{ended}
 use Rattle.wire_attributes.proofs.GrammarLaws.{are-read}
 use Rattle.wire_policies.specs.Selector.{selector_size}
 use Rattle.wire_policies.specs.Policy.{spi_size, GroupSaPolicy, GroupWidePolicy, Policy, group_sa, group_wide, SaBody, sa_body, policy}
@@ -45,26 +47,30 @@ one_size : (s : List ℕ) (x : Policy) → IsPolicy s x → (4 ≤ length s) × 
 one_size s (group_sa x) (is-sa i) = (omega (arith, i.least), i.size)
 one_size s (group_wide x) (is_wide i) = (i.least, i.size)
 
+pub counts : (s : List ℕ) → 4 ≤ length s → be16 s 2 ≡ length s → is_counted s ≡ true
+counts s h e = ap (λ (t : Bool). t && eqb (be16 s 2) (length s)) (le-leb 4 (length s) h) ∙ eq-eqb (be16 s 2) (length s) e
+
 -- WHICH POLICY
+pub is-ok : {E : Type 0} (r : Result ℕ E) (e : ℕ) → Some e ≡ result_ok r → Ok e ≡ r
+is-ok (Ok x) e q = let u : e ≡ x = cc in ap Ok u
+is-ok (Err x) e q = let z : ◌≡◌ {A = ℕ} 0 1 = cc in absurd (omega arith)
+
 module _ (s : List ℕ) where
-  none : ((x : Policy) → policy 0 s ≡ whole x [] → ⊥) → kind.Nothing ≡ shown_kind s
+  none : ((x : Policy) → policy 0 s ≡ whole x [] → ⊥) → None ≡ shown_kind s
   none h = go (policy 0 s) refl
     where
-      go : (y : Reading Policy) → policy 0 s ≡ y → kind.Nothing ≡ on_all kind.Nothing kind_in y
+      go : (y : Reading Policy) → policy 0 s ≡ y → None ≡ on_all None kind_in y
       go (whole x []) e = absurd (h x e)
       go (whole x (z ∷ r)) e = refl
       go (broken o) e = refl
 
-  pub too_short : length s < 4 → kind.Nothing ≡ shown_kind s
-  too_short h = none (λ x e. omega (arith, (one_size s x (one s x e)).0))
+  pub uncounted : is_counted s ≡ false → None ≡ shown_kind s
+  uncounted h = none (λ x e.
+      let f = one_size s x (one s x e) in
+      let b : ◌≡◌ {A = Bool} false true = sym h ∙ counts s f.0 f.1 in
+      let z : ◌≡◌ {A = ℕ} 0 1 = cc in omega arith)
 
-  pub other-size : (n : ℕ) → n ≡ be16 s 2 → (n ≡ length s → ⊥) → kind.Nothing ≡ shown_kind s
-  other-size n q h = none (λ x e. h (q ∙ (one_size s x (one s x e)).1))
-
-  pub breaks : (o : ℕ) → broken_at o ≡ spot_of s (policy 0 s) → kind.Nothing ≡ shown_kind s
-  breaks o q = ap (on_all kind.Nothing kind_in) (sym (spot-broken s (policy 0 s) o q))
-
-  module _ (n e : ℕ) (nq : n ≡ be16 s 2) (size : n ≡ length s) (q : Ok e ≡ spot_of s (policy 0 s)) where
+  module _ (e : ℕ) (h : is_counted s ≡ true) (q : Ok e ≡ spot_of s (policy 0 s)) where
     record Whole : Type 0 where
       item : Policy
       reads : policy 0 s ≡ whole item []
@@ -73,23 +79,24 @@ module _ (s : List ℕ) where
     whole-one =
         let f = ended s (policy 0 s) e (takes-keeps s (policy 0 s) (takes 0 s)) q in
         let g = inverse 0 s f.item (drop e s) f.is in
-        let r : drop e s ≡ [] = g.after ∙ ap (λ (m : ℕ). drop m s) (sym nq ∙ size) ∙ drop-length s in
+        let size = eqb-true (be16 s 2) (length s) (and_parts (leb 4 (length s)) (eqb (be16 s 2) (length s)) h).1 in
+        let r : drop e s ≡ [] = g.after ∙ ap (λ (m : ℕ). drop m s) size ∙ drop-length s in
         record { item = f.item; reads = f.is ∙ ap (whole f.item) r }
 
     module _ (p : ℕ) (pq : p ≡ oct s 0) where
-      pub wide : p ≡ 0 → kind.GroupWide ≡ shown_kind s
-      wide z = go whole-one.item (one s whole-one.item whole-one.reads) ∙ ap (on_all kind.Nothing kind_in) (sym whole-one.reads)
+      pub wide : p ≡ 0 → Some kind.GroupWide ≡ shown_kind s
+      wide z = go whole-one.item (one s whole-one.item whole-one.reads) ∙ ap (on_all None kind_in) (sym whole-one.reads)
         where
-          go : (x : Policy) → IsPolicy s x → kind.GroupWide ≡ kind_in x
+          go : (x : Policy) → IsPolicy s x → Some kind.GroupWide ≡ kind_in x
           go (group_wide x) (is_wide i) = refl
           go (group_sa x) (is-sa i) = absurd (omega (arith, i.known, ap spi_size (sym i.protocol ∙ sym pq ∙ z)))
 
-      pub sa : (p ≡ 0 → ⊥) → kind.GroupSa p ≡ shown_kind s
-      sa z = go whole-one.item (one s whole-one.item whole-one.reads) ∙ ap (on_all kind.Nothing kind_in) (sym whole-one.reads)
+      pub sa : (p ≡ 0 → ⊥) → Some (kind.GroupSa p) ≡ shown_kind s
+      sa z = go whole-one.item (one s whole-one.item whole-one.reads) ∙ ap (on_all None kind_in) (sym whole-one.reads)
         where
-          go : (x : Policy) → IsPolicy s x → kind.GroupSa p ≡ kind_in x
+          go : (x : Policy) → IsPolicy s x → Some (kind.GroupSa p) ≡ kind_in x
           go (group_wide x) (is_wide i) = absurd (z (pq ∙ i.first))
-          go (group_sa x) (is-sa i) = ap kind.GroupSa (pq ∙ i.protocol)
+          go (group_sa x) (is-sa i) = ap (λ (n : ℕ). Some (kind.GroupSa n)) (pq ∙ i.protocol)
 
 -- the first octet that the answer names is the policy's: "protocol (6 Rekey, 3 ESP, 2 AH)", "First octet 0: group-wide policy"
 pub kind-octet : (s : List ℕ) (x : Policy) → IsPolicy s x → first_octet (kind_in x) ≡ oct s 0 ∷ []
@@ -99,24 +106,21 @@ kind-octet s (group_wide x) (is_wide i) = ap (λ (p : ℕ). p ∷ []) (sym i.fir
 octet-is : (s : List ℕ) → first_octet (shown_kind s) ≡ octet_of s
 octet-is s = go (policy 0 s) refl
   where
-    go : (y : Reading Policy) → policy 0 s ≡ y → first_octet (on_all kind.Nothing kind_in y) ≡ on_all [] (λ (x : Policy). oct s 0 ∷ []) y
+    go : (y : Reading Policy) → policy 0 s ≡ y → first_octet (on_all None kind_in y) ≡ on_all [] (λ (x : Policy). oct s 0 ∷ []) y
     go (whole x []) e = kind-octet s x (one s x e)
     go (whole x (n ∷ l)) e = refl
     go (broken o) e = refl
 
-pub told : (s : List ℕ) (r : Kind) → r ≡ shown_kind s → (r ≡ shown_kind s) × (first_octet r ≡ octet_of s)
+pub told : (s : List ℕ) (r : Option Kind) → r ≡ shown_kind s → (r ≡ shown_kind s) × (first_octet r ≡ octet_of s)
 told s r e = (e, ap first_octet e ∙ octet-is s)
 
 pub kind-of-policy : (s : List ℕ) (x : Policy) → policy 0 s ≡ whole x [] → first_octet (shown_kind s) ≡ oct s 0 ∷ []
-kind-of-policy s x e = ap (λ (y : Reading Policy). first_octet (on_all kind.Nothing kind_in y)) e ∙ kind-octet s x (one s x e)
+kind-of-policy s x e = ap (λ (y : Reading Policy). first_octet (on_all None kind_in y)) e ∙ kind-octet s x (one s x e)
 
 pub kind-of-none : (s : List ℕ) → ((x : Policy) → policy 0 s ≡ whole x [] → ⊥) → first_octet (shown_kind s) ≡ []
 kind-of-none s h = ap first_octet (sym (none s h))
 
 -- WHAT IT SHOWS
-pub counts : (s : List ℕ) → 4 ≤ length s → be16 s 2 ≡ length s → is_counted s ≡ true
-counts s h e = ap (λ (t : Bool). t && eqb (be16 s 2) (length s)) (le-leb 4 (length s) h) ∙ eq-eqb (be16 s 2) (length s) e
-
 pub record Sa (s : List ℕ) (p : ℕ) : Type 0 where
   pub head : 4 + spi_size p ≤ length s
   pub spi : part s 4 (4 + spi_size p) ≡ shown_spi s
@@ -192,10 +196,10 @@ module _ (s : List ℕ) where
   abbrev Absurd : Type 0
   Absurd = ◌≡◌ {A = ℕ} 0 1
 
-  pub of-sa : (p : ℕ) → kind.GroupSa p ≡ shown_kind s → Sa s p
+  pub of-sa : (p : ℕ) → Some (kind.GroupSa p) ≡ shown_kind s → Sa s p
   of-sa p = go (policy 0 s) refl
     where
-      go : (y : Reading Policy) → policy 0 s ≡ y → kind.GroupSa p ≡ on_all kind.Nothing kind_in y → Sa s p
+      go : (y : Reading Policy) → policy 0 s ≡ y → Some (kind.GroupSa p) ≡ on_all None kind_in y → Sa s p
       go (whole (group_sa x) []) e q =
           let u : x.protocol ≡ p = cc in
           subst (Sa s) u (sa-of s x e (one s (group_sa x) e))
@@ -203,10 +207,10 @@ module _ (s : List ℕ) where
       go (whole x (y ∷ r)) e q = let z : Absurd = cc in absurd (omega arith)
       go (broken o) e q = let z : Absurd = cc in absurd (omega arith)
 
-  pub of-wide : kind.GroupWide ≡ shown_kind s → Wide s
+  pub of-wide : Some kind.GroupWide ≡ shown_kind s → Wide s
   of-wide = go (policy 0 s) refl
     where
-      go : (y : Reading Policy) → policy 0 s ≡ y → kind.GroupWide ≡ on_all kind.Nothing kind_in y → Wide s
+      go : (y : Reading Policy) → policy 0 s ≡ y → Some kind.GroupWide ≡ on_all None kind_in y → Wide s
       go (whole (group_sa x) []) e q = let z : Absurd = cc in absurd (omega arith)
       go (whole (group_wide x) []) e q = wide_of s x e (one s (group_wide x) e)
       go (whole x (y ∷ r)) e q = let z : Absurd = cc in absurd (omega arith)
@@ -220,10 +224,10 @@ module _ (s : List ℕ) where
     first = λ c. h Step (stay_step c) (first_in s c) ∙ ap (on_all (stay_step c) (first_in s c)) (sym e);
   }
 
-  pub of_none : kind.Nothing ≡ shown_kind s → Nowhere s
+  pub of_none : None ≡ shown_kind s → Nowhere s
   of_none = go (policy 0 s) refl
     where
-      go : (y : Reading Policy) → policy 0 s ≡ y → kind.Nothing ≡ on_all kind.Nothing kind_in y → Nowhere s
+      go : (y : Reading Policy) → policy 0 s ≡ y → None ≡ on_all None kind_in y → Nowhere s
       go (whole (group_sa x) []) e q = let z : Absurd = cc in absurd (omega arith)
       go (whole (group_wide x) []) e q = let z : Absurd = cc in absurd (omega arith)
       go (whole x (y ∷ r)) e q = nowhere (whole x (y ∷ r)) e (λ B z f. refl)

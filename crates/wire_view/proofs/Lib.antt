@@ -1,5 +1,6 @@
 pub mod AllSamples
 pub mod KindLaws
+pub mod LeftLaws
 pub mod AttributeLaws
 pub mod TransformLaws
 pub mod SelectorLaws

@@ -1,27 +1,25 @@
 -- What the readers of one selector, transform or attribute say of a step from a cursor.
-use Rattle.std.specs.Prelude.{Ok}
+use Rattle.std.specs.Prelude.{Ok, Option, Some}
 use Prim.Native.Nat.{ℕ, ◌+◌, ◌-◌, ◌/◌, ◌%◌, ◌<◌, ◌≤◌}
 use mathlib.Core.Path.{◌≡◌, refl, ap, sym, ◌∙◌, subst}
 use mathlib.Core.List.{List, [], ◌++◌}
-use mathlib.Core.Bool.{Bool, true, false, cond, ◌&&◌}
+use mathlib.Core.Bool.{Bool, true, cond}
 use native.Mathlib.Nat.{add-zero}
 use native.Mathlib.Omega.{arith}
 use borrow.Author.Tests.{lt-leb, eq-eqb, ne_eqb}
-use lib.Dec.{leb, eqb}
+use lib.Dec.{eqb}
 use lib.ListN.{length, take, drop, length-append, length-drop, drop_of_length-le}
 use lib.Seq.{get_or-drop, take-append_seam}
 use Rattle.lists.proofs.Cases.{and_parts}
 use Rattle.octets.specs.Numbers.{oct}
-use Rattle.octets.specs.Walk.{be16, part, Reading, whole, broken, Reader, Linked}
+use Rattle.octets.specs.Walk.{part, Reading, whole, broken, Reader, Linked}
 use Rattle.octets.proofs.Walks.{tail, Takes, to_end}
 use Rattle.octets.proofs.Inverse.{inverse-opened}
 use Rattle.wire_attributes.specs.Attribute.{Attribute, attribute_size, attribute_of, fits}
 use Rattle.wire_attributes.specs.Layout.{formed_in, fits_in, attribute}
-use Rattle.wire_attributes.specs.Answers.{broken_at, spot_of}
-use Rattle.wire_attributes.specs.Place.{in_policy}
+use Rattle.wire_attributes.specs.Answers.{spot_of}
 use Rattle.wire_attributes.specs.declared.tables.Place.{Place}
-use Rattle.wire_attributes.specs.declared.tables.Place.TheVariants as place
-use Rattle.wire_attributes.proofs.Loops.{next-is, next-broken, spot-broken}
+use Rattle.wire_attributes.proofs.Loops.{next-is, spot-broken}
 use Rattle.wire_attributes.proofs.AttributeLaws.{size-least, cut_in}
 use Rattle.wire_attributes.proofs.AttributeLaws.{takes as attribute-takes}
 use Rattle.wire_policies.specs.Selector.{Selector, selector}
@@ -32,18 +30,17 @@ use Rattle.wire_policies.proofs.SelectorGrammar.{sound as selector-sound}
 use Rattle.wire_policies.proofs.TransformLaws.{takes as transform-takes, next_of}
 use Rattle.wire_policies.proofs.TransformGrammar.{sound as transform-sound}
 use Rattle.wire_view.specs.View.{shown_selector, shown_transform, shown_attribute}
-use Rattle.wire_view.specs.View.{at_destination, at_transform, at_attribute, cursor_at, stay_step, stepped, selector_step}
-use Rattle.wire_view.specs.View.{transform_step, policy_place, attribute_step, first_step, step_by, is_counted, step_at}
+use Rattle.wire_view.specs.View.{at_transform, at_attribute, cursor_at, stay_step, stepped, selector_step}
+use Rattle.wire_view.specs.View.{transform_step, policy_place, attribute_step, step_by, is_counted, step_at}
 use Rattle.wire_view.specs.declared.items.Item.{Item}
 use Rattle.wire_view.specs.declared.read.Step.{Step}
-use Rattle.wire_view.proofs.KindLaws.{counts}
 
-abbrev pub told : Item → ℕ → Step
+abbrev pub told : Option Item → ℕ → Step
 told r n = record { item = r; next = n }
 
 -- BY WHAT WAS READ
 module _ {A : Type 0} (s : List ℕ) (c : ℕ) (show : A → Item) (comes : A → ℕ) (x : Reading A) where
-  on : (a : A) (e : ℕ) → x ≡ whole a (drop e s) → e ≤ length s → (r : Item) (n : ℕ) → r ≡ show a → n ≡ cursor_at e (comes a)
+  on : (a : A) (e : ℕ) → x ≡ whole a (drop e s) → e ≤ length s → (r : Option Item) (n : ℕ) → r ≡ Some (show a) → n ≡ cursor_at e (comes a)
       → told r n ≡ stepped s c show comes x
   on a e q h r n rq nq =
       let d : e ≡ length s - length (drop e s) = omega (arith, length-drop e s, h) in
@@ -75,11 +72,6 @@ module _ {A : Type 0} (p : Reader A) (takes : (b : ℕ) (s : List ℕ) → Takes
       let n = next-is p takes 0 s at h e (q ∙ ap (λ (k : ℕ). spot_of (tail s at) (p k (tail s at))) (sym from_zero)) in
       record { item = n.item; is = ap (λ (k : ℕ). p k (drop at s)) (sym from_zero) ∙ n.is; some = n.some; inside = n.inside }
 
-  not_found : (o : ℕ) → broken_at o ≡ spot_of (tail s at) (p at (tail s at)) → p at (drop at s) ≡ broken o
-  not_found o q =
-      ap (λ (k : ℕ). p k (drop at s)) (sym from_zero)
-      ∙ next-broken p takes 0 s at h o (q ∙ ap (λ (k : ℕ). spot_of (tail s at) (p k (tail s at))) (sym from_zero))
-
 -- no attribute in no octet
 pub none-there : (p : Place) (b : ℕ) (l : List ℕ) → length l ≡ 0 → attribute p b l ≡ broken b
 none-there p b l z =
@@ -97,11 +89,6 @@ module _ (s : List ℕ) (c at : ℕ) where
       (sym (past h))
 
   module _ (h : at ≤ length s) (comes : ℕ) where
-    pub no-selector : (o : ℕ) → broken_at o ≡ spot_of (tail s at) (selector 0 at (tail s at)) → stay_step c ≡ selector_step s c comes at
-    no-selector o q =
-        off s c (shown_selector at) (λ (x : Selector). comes) (selector 0 at (drop at s)) o
-        (not_found (selector 0) (selector-takes 0) s at h o q)
-
     module _ (e : ℕ) (q : Ok e ≡ spot_of (tail s at) (selector 0 at (tail s at))) where
       read : Found (selector 0) s at e
       read = found (selector 0) (selector-takes 0) s at h e q
@@ -118,10 +105,10 @@ module _ (s : List ℕ) (c at : ℕ) where
       selector-there = (read.item, selector-is)
 
       pub over-selector : (r : Item) → ((x : Selector) → IsSelector (part s at (at + e)) x → r ≡ shown_selector at x)
-          → (n : ℕ) → n ≡ cursor_at (at + e) comes → told r n ≡ selector_step s c comes at
+          → (n : ℕ) → n ≡ cursor_at (at + e) comes → told (Some r) n ≡ selector_step s c comes at
       over-selector r k n nq =
           on s c (shown_selector at) (λ (x : Selector). comes) (selector 0 at (drop at s)) read.item (at + e) read.is read.inside
-          r n (k read.item selector-is) nq
+          (Some r) n (ap Some (k read.item selector-is)) nq
 
   -- A TRANSFORM
   abbrev shows : Linked Bool Transform → Item
@@ -136,11 +123,6 @@ module _ (s : List ℕ) (c at : ℕ) where
       ap (λ (l : List ℕ). stepped s c shows comes-next (transform 0 true at l)) (sym (past h))
 
   module _ (h : at ≤ length s) where
-    pub no-transform : (o : ℕ) → broken_at o ≡ spot_of (tail s at) (transform 0 true at (tail s at)) → stay_step c ≡ transform_step s c at
-    no-transform o q =
-        off s c shows comes-next (transform 0 true at (drop at s)) o
-        (not_found (transform 0 true) (transform-takes 0 true) s at h o q)
-
     module _ (e : ℕ) (q : Ok e ≡ spot_of (tail s at) (transform 0 true at (tail s at))) where
       read-transform : Found (transform 0 true) s at e
       read-transform = found (transform 0 true) (transform-takes 0 true) s at h e q
@@ -166,16 +148,16 @@ module _ (s : List ℕ) (c at : ℕ) where
             next_of 0 true at (drop at s) read-transform.item (drop (at + e) s) read-transform.is
             ∙ ap (λ (y : ℕ). eqb y 3) (u ∙ sym mq)
 
-        over : (n : ℕ) → n ≡ cursor_at (at + e) (comes-next read-transform.item) → told r n ≡ transform_step s c at
+        over : (n : ℕ) → n ≡ cursor_at (at + e) (comes-next read-transform.item) → told (Some r) n ≡ transform_step s c at
         over n nq =
             on s c shows comes-next (transform 0 true at (drop at s)) read-transform.item (at + e) read-transform.is
-            read-transform.inside r n (k read-transform.item.item read-transform.item.next transform-is) nq
+            read-transform.inside (Some r) n (ap Some (k read-transform.item.item read-transform.item.next transform-is)) nq
 
-        pub over-transform : m ≡ 3 → (n : ℕ) → n ≡ cursor_at (at + e) at_transform → told r n ≡ transform_step s c at
+        pub over-transform : m ≡ 3 → (n : ℕ) → n ≡ cursor_at (at + e) at_transform → told (Some r) n ≡ transform_step s c at
         over-transform z n nq =
             over n (nq ∙ ap (λ (t : Bool). cursor_at (at + e) (cond t at_transform at_attribute)) (sym (mark ∙ eq-eqb m 3 z)))
 
-        pub over_last : (m ≡ 3 → ⊥) → (n : ℕ) → n ≡ cursor_at (at + e) at_attribute → told r n ≡ transform_step s c at
+        pub over_last : (m ≡ 3 → ⊥) → (n : ℕ) → n ≡ cursor_at (at + e) at_attribute → told (Some r) n ≡ transform_step s c at
         over_last z n nq =
             over n (nq ∙ ap (λ (t : Bool). cursor_at (at + e) (cond t at_transform at_attribute)) (sym (mark ∙ ne_eqb m 3 z)))
 
@@ -189,19 +171,9 @@ module _ (s : List ℕ) (c at : ℕ) where
     step_of : Place → Step
     step_of y = stepped s c (shown_attribute y at) (λ (a : Attribute). at_attribute) (attribute y at (drop at s))
 
-    pub no-attribute : (o : ℕ) → broken_at o ≡ spot_of (tail s at) (attribute p at (tail s at)) → stay_step c ≡ attribute_step s c at
-    unfolding step_of
-    no-attribute o q =
-        off s c (shown_attribute p at) (λ (a : Attribute). at_attribute) (attribute p at (drop at s)) o
-        (not_found (attribute p) (attribute-takes p) s at h o q)
-        ∙ ap step_of pq
-
     module _ (e : ℕ) (q : Ok e ≡ spot_of (tail s at) (attribute p at (tail s at))) where
       read-attribute : Found (attribute p) s at e
       read-attribute = found (attribute p) (attribute-takes p) s at h e q
-
-      pub attribute-inside : at + e ≤ length s
-      attribute-inside = read-attribute.inside
 
       whole-one : (fits (drop at s) ≡ true) × (attribute_of (drop at s) ≡ read-attribute.item)
       unfolding attribute
@@ -213,65 +185,19 @@ module _ (s : List ℕ) (c at : ℕ) where
           let u : attribute_of y ≡ n.item = cc in
           ((and_parts (fits y) (formed_in p (attribute_of y)) g.0).0, u)
 
-      pub over-attribute : (r : Item) → (fits (tail s at) ≡ true → r ≡ shown_attribute p at (attribute_of (tail s at)))
+      pub over-attribute : (r : Option Item) → (fits (tail s at) ≡ true → r ≡ Some (shown_attribute p at (attribute_of (tail s at))))
           → (n : ℕ) → n ≡ cursor_at (at + e) at_attribute → told r n ≡ attribute_step s c at
       unfolding step_of
       over-attribute r k n nq =
           let f = ap fits (to_end s at) ∙ whole-one.0 in
-          let g : r ≡ shown_attribute p at read-attribute.item =
-          k f ∙ ap (λ (y : List ℕ). shown_attribute p at (attribute_of y)) (to_end s at) ∙ ap (shown_attribute p at) whole-one.1 in
+          let g : r ≡ Some (shown_attribute p at read-attribute.item) =
+          k f ∙ ap (λ (y : List ℕ). Some (shown_attribute p at (attribute_of y))) (to_end s at)
+          ∙ ap (λ (y : Attribute). Some (shown_attribute p at y)) whole-one.1 in
           on s c (shown_attribute p at) (λ (a : Attribute). at_attribute) (attribute p at (drop at s)) read-attribute.item (at + e)
           read-attribute.is read-attribute.inside r n g nq
           ∙ ap step_of pq
 
 -- WHICH OF THEM
 module _ (s : List ℕ) (c : ℕ) where
-  pub too_short : length s < 4 → stay_step c ≡ step_at s c
-  too_short h =
-      ap (λ (t : Bool). cond (t && eqb (be16 s 2) (length s)) (step_by s c (c % 4) (c / 4)) (stay_step c))
-      (sym (lt-leb 4 (length s) h))
-
-  pub other-size : (n : ℕ) → n ≡ be16 s 2 → (n ≡ length s → ⊥) → stay_step c ≡ step_at s c
-  other-size n q z = uncounted (leb 4 (length s))
-    where
-      uncounted : (t : Bool) → stay_step c ≡ cond (t && eqb (be16 s 2) (length s)) (step_by s c (c % 4) (c / 4)) (stay_step c)
-      uncounted false = refl
-      uncounted true =
-          ap (λ (t : Bool). cond t (step_by s c (c % 4) (c / 4)) (stay_step c))
-          (sym (ne_eqb (be16 s 2) (length s) (λ y. z (q ∙ y))))
-
-  pub whole-size : 4 ≤ length s → (n : ℕ) → n ≡ be16 s 2 → n ≡ length s → step_by s c (c % 4) (c / 4) ≡ step_at s c
-  whole-size h n q z =
-      ap (λ (t : Bool). cond t (step_by s c (c % 4) (c / 4)) (stay_step c)) (sym (counts s h (sym q ∙ z)))
-
   pub goes_by : (k b : ℕ) → is_counted s ≡ true → c % 4 ≡ k → c / 4 ≡ b → step_at s c ≡ step_by s c k b
   goes_by k b h kq bq = λ j. cond (h j) (step_by s c (kq j) (bq j)) (stay_step c)
-
-  module _ (comes b : ℕ) where
-    pub by_first : comes ≡ 0 → first_step s c ≡ step_by s c comes b
-    by_first z = ap (λ (n : ℕ). step_by s c n b) (sym z)
-
-    pub by-destination : comes ≡ at_destination → selector_step s c at_transform b ≡ step_by s c comes b
-    by-destination z = ap (λ (n : ℕ). step_by s c n b) (sym z)
-
-    pub by-transform : comes ≡ at_transform → transform_step s c b ≡ step_by s c comes b
-    by-transform z = ap (λ (n : ℕ). step_by s c n b) (sym z)
-
-    pub by-attribute : (comes ≡ 0 → ⊥) → (comes ≡ at_destination → ⊥) → (comes ≡ at_transform → ⊥) → attribute_step s c b ≡ step_by s c comes b
-    by-attribute x y z =
-        let f = ne_eqb comes 0 x in
-        let g = ne_eqb comes at_destination y in
-        let k = ne_eqb comes at_transform z in
-        λ j. cond (sym f j) (first_step s c)
-        (cond (sym g j) (selector_step s c at_transform b) (cond (sym k j) (transform_step s c b) (attribute_step s c b)))
-
--- the place of a policy's attributes
-module _ (s : List ℕ) (p : ℕ) (pq : p ≡ oct s 0) where
-  pub place-wide : p ≡ 0 → place.GroupWidePolicy ≡ policy_place s
-  place-wide z =
-      ap (λ (t : Bool). cond t place.GroupWidePolicy (in_policy (oct s 0))) (sym (eq-eqb (oct s 0) 0 (sym pq ∙ z)))
-
-  pub place-sa : (p ≡ 0 → ⊥) → in_policy p ≡ policy_place s
-  place-sa z =
-      ap in_policy pq
-      ∙ ap (λ (t : Bool). cond t place.GroupWidePolicy (in_policy (oct s 0))) (sym (ne_eqb (oct s 0) 0 (λ y. z (pq ∙ y))))

@@ -1,5 +1,6 @@
 -- THE STEPS FROM THE START SHOW WHAT THE POLICY HOLDS, each selector, transform and attribute once and in its order, and then nothing: n
 -- steps show the first n of them, whatever n and the octets are (`walk-shows`). A cursor at the end stays (`end_stays`).
+use Rattle.std.specs.Prelude.{Option, Some, None}
 use Prim.Native.Nat.{ℕ, zero, suc, ◌+◌, ◌-◌, ◌/◌, ◌%◌, ◌≤◌}
 use mathlib.Core.Path.{◌≡◌, refl, ap, sym, ◌∙◌, subst}
 use mathlib.Core.List.{List, [], ◌∷◌, ◌++◌, map}
@@ -31,7 +32,7 @@ use Rattle.wire_view.specs.View.{shown_suite}
 use Rattle.wire_view.specs.View.{shown_body, shown_items, at_destination, at_transform, at_attribute, cursor_at, stay_step, stepped}
 use Rattle.wire_view.specs.View.{selector_step}
 use Rattle.wire_view.specs.View.{transform_step, policy_place, attribute_step, first_in, is_counted, step_at, next_after, is_nothing, is_at_end}
-use Rattle.wire_view.specs.View.{shown_in}
+use Rattle.wire_view.specs.View.{before, shown_in}
 use Rattle.wire_view.specs.declared.items.Item.{Item}
 use Rattle.wire_view.specs.declared.read.Kind.{Kind}
 use Rattle.wire_view.specs.declared.read.Kind.TheVariants as kind
@@ -42,16 +43,13 @@ use Rattle.wire_view.proofs.StepLaws.{none-there, goes_by}
 
 module _ (s : List ℕ) where
   -- ONE STEP OF A WALK
-  goes : (n c : ℕ) (x : Item) (m : ℕ) → step_at s c ≡ record { item = x; next = m } → is_nothing x ≡ false
-      → shown_in (suc n) s c ≡ x ∷ shown_in n s m
+  goes : (n c : ℕ) (x : Item) (m : ℕ) → step_at s c ≡ record { item = Some x; next = m } → shown_in (suc n) s c ≡ x ∷ shown_in n s m
   unfolding shown_in
-  goes n c x m q f =
-      (λ j. cond (is_nothing (q j).item) [] ((q j).item ∷ shown_in n s (q j).next))
-      ∙ ap (λ (t : Bool). cond t [] (x ∷ shown_in n s m)) f
+  goes n c x m q = λ j. before (q j).item (shown_in n s (q j).next)
 
   ends : (n c : ℕ) → step_at s c ≡ stay_step c → shown_in (suc n) s c ≡ []
   unfolding shown_in
-  ends n c q = λ j. cond (is_nothing (q j).item) [] ((q j).item ∷ shown_in n s (q j).next)
+  ends n c q = λ j. before (q j).item (shown_in n s (q j).next)
 
   -- o stands from b on, before t
   record Stands (b : ℕ) (o t : List ℕ) : Type 0 where
@@ -92,10 +90,10 @@ module _ (s : List ℕ) where
         let f : Stands b o t = record { there = e; all = a } in
         let m = length s - length t in
         let d : b ≡ length s - attributes_span (x ∷ l) = omega (arith, row-octets (then o t {a = x} {l = l} i r), a) in
-        let w : step_at s c ≡ record { item = shown_attribute p b x; next = cursor_at m at_attribute } =
+        let w : step_at s c ≡ record { item = Some (shown_attribute p b x); next = cursor_at m at_attribute } =
         q ∙ ap (λ (y : List ℕ). stepped s c (shown_attribute p b) (λ (z : Attribute). at_attribute) (attribute p b y)) e
         ∙ ap (stepped s c (shown_attribute p b) (λ (z : Attribute). at_attribute)) (attribute-complete p b o t x i) in
-        goes n c (shown_attribute p b x) (cursor_at m at_attribute) w refl
+        goes n c (shown_attribute p b x) (cursor_at m at_attribute) w
         ∙ ap (λ (y : List Item). shown_attribute p b x ∷ y)
         (attributes-walk n m (cursor_at m at_attribute) (attribute-next m) r (rest b o t f) (count b o t f))
         ∙ ap (λ (y : ℕ). shown_attribute p y x ∷ take n (shown_attributes p (length s) l)) d
@@ -120,10 +118,10 @@ module _ (s : List ℕ) where
         let d = length s - length t in
         let shows : Linked Bool Transform → Item = λ y. shown_transform y.item in
         let leads : Linked Bool Transform → ℕ = λ y. comes y.next in
-        let w : step_at s c ≡ record { item = shown_transform x; next = cursor_at d (comes go) } =
+        let w : step_at s c ≡ record { item = Some (shown_transform x); next = cursor_at d (comes go) } =
         goes_by s c at_transform b h k.0 k.1 ∙ ap (λ (y : List ℕ). stepped s c shows leads (transform 0 true b y)) e
         ∙ ap (stepped s c shows leads) (transform-complete 0 true b o t v z i) in
-        goes n c (shown_transform x) (cursor_at d (comes go)) w refl
+        goes n c (shown_transform x) (cursor_at d (comes go)) w
         ∙ ap (λ (y : List Item). shown_transform x ∷ y) (transforms-walk n d go {m = m} f r (rest b o t u) (count b o t u))
 
     -- THE DESTINATION, THEN TRANSFORMS AND ATTRIBUTES
@@ -156,12 +154,12 @@ module _ (s : List ℕ) where
           let c = cursor_at d at_destination in
           let k = at-cursor d at_destination (omega arith) in
           let t = length s - length i.after in
-          let w : step_at s c ≡ record { item = shown_selector d x.destination; next = cursor_at t at_transform } =
+          let w : step_at s c ≡ record { item = Some (shown_selector d x.destination); next = cursor_at t at_transform } =
           goes_by s c at_destination d h k.0 k.1
           ∙ ap (λ (y : List ℕ). stepped s c (shown_selector d) (λ (z : Selector). at_transform) (selector 0 d y)) then-stands.there
           ∙ ap (stepped s c (shown_selector d) (λ (z : Selector). at_transform))
           (selector-complete 0 d i.destination i.after x.destination i.to) in
-          goes n c (shown_selector d x.destination) (cursor_at t at_transform) w refl
+          goes n c (shown_selector d x.destination) (cursor_at t at_transform) w
           ∙ ap (λ (y : List Item). shown_selector d x.destination ∷ y)
           (transforms-walk n t true {m = x.suite.attributes} i.transforms attributes-are
           (rest d i.destination i.after then-stands) (count d i.destination i.after then-stands))
@@ -170,11 +168,11 @@ module _ (s : List ℕ) where
       unfolding shown_in d
       body-walk zero c q = refl
       body-walk (suc n) c q =
-          let w : step_at s c ≡ record { item = shown_selector b x.source; next = cursor_at d at_destination } =
+          let w : step_at s c ≡ record { item = Some (shown_selector b x.source); next = cursor_at d at_destination } =
           q ∙ ap (λ (y : List ℕ). stepped s c (shown_selector b) (λ (z : Selector). at_destination) (selector 0 b y)) i.joined
           ∙ ap (stepped s c (shown_selector b) (λ (z : Selector). at_destination))
           (selector-complete 0 b i.source (i.destination ++ i.after) x.source i.from) in
-          goes n c (shown_selector b x.source) (cursor_at d at_destination) w refl
+          goes n c (shown_selector b x.source) (cursor_at d at_destination) w
           ∙ ap (λ (y : List Item). shown_selector b x.source ∷ y) (destination-walk n)
           ∙ (λ j. shown_selector b x.source
           ∷ take n (shown_selector (d-is j) x.destination ∷ shown_suite (sym pq j) (length s) x.suite))
@@ -190,13 +188,13 @@ module _ (s : List ℕ) where
   pub walk-shows : (n : ℕ) → shown_in n s 0 ≡ take n (shown_items s)
   walk-shows n = go (shown_kind s) refl
     where
-      go : (k : Kind) → k ≡ shown_kind s → shown_in n s 0 ≡ take n (shown_items s)
-      go (kind.GroupSa p) q =
+      go : (k : Option Kind) → k ≡ shown_kind s → shown_in n s 0 ≡ take n (shown_items s)
+      go (Some (kind.GroupSa p)) q =
           let f = of-sa s p q in
           body-walk f.counts (in_policy p) f.place (4 + spi_size p) f.body f.is f.head n 0
           (goes_by s 0 0 0 f.counts refl refl ∙ sym (f.first 0))
           ∙ ap (take n) f.items
-      go kind.GroupWide q =
+      go (Some kind.GroupWide) q =
           let f = of-wide s q in
           let v = place.GroupWidePolicy in
           let y = drop 4 s in
@@ -206,31 +204,28 @@ module _ (s : List ℕ) where
           attributes-walk f.counts n 4 0 (goes_by s 0 0 0 f.counts refl refl ∙ sym (f.first 0)) r refl
           (omega (arith, f.head, length-drop 4 s))
           ∙ ap (λ (z : Place). take n (shown_attributes z (length s) (attributes_in v y))) (sym f.place) ∙ ap (take n) f.items
-      go kind.Nothing q = none_walk (of_none s q) n
+      go None q = none_walk (of_none s q) n
 
 -- AT THE END A CURSOR STAYS, wherever it points
 abbrev Stays : ℕ → Step → Type 0
 Stays c x = is_nothing x.item ≡ true → x.next ≡ c
 
 module _ (s : List ℕ) (c : ℕ) where
-  by-reading : {A : Type 0} (show : A → Item) (comes : A → ℕ) → ((a : A) → is_nothing (show a) ≡ false) → (x : Reading A)
-      → Stays c (stepped s c show comes x)
-  by-reading show comes some (whole a rest) e =
-      let y : ◌≡◌ {A = Bool} false true = sym (some a) ∙ e in
-      let z : ◌≡◌ {A = ℕ} 0 1 = cc in absurd (omega arith)
-  by-reading show comes some (broken o) e = refl
+  by-reading : {A : Type 0} (show : A → Item) (comes : A → ℕ) → (x : Reading A) → Stays c (stepped s c show comes x)
+  by-reading show comes (whole a rest) e = let z : ◌≡◌ {A = ℕ} 0 1 = cc in absurd (omega arith)
+  by-reading show comes (broken o) e = refl
 
   selector-stays : (comes b : ℕ) → Stays c (selector_step s c comes b)
-  selector-stays comes b = by-reading (shown_selector b) (λ (x : Selector). comes) (λ x. refl) (selector 0 b (drop b s))
+  selector-stays comes b = by-reading (shown_selector b) (λ (x : Selector). comes) (selector 0 b (drop b s))
 
   transform-stays : (b : ℕ) → Stays c (transform_step s c b)
   transform-stays b =
       by-reading (λ (x : Linked Bool Transform). shown_transform x.item)
-      (λ (x : Linked Bool Transform). cond x.next at_transform at_attribute) (λ x. refl) (transform 0 true b (drop b s))
+      (λ (x : Linked Bool Transform). cond x.next at_transform at_attribute) (transform 0 true b (drop b s))
 
   attribute-stays : (b : ℕ) → Stays c (attribute_step s c b)
   attribute-stays b =
-      by-reading (shown_attribute (policy_place s) b) (λ (a : Attribute). at_attribute) (λ a. refl) (attribute (policy_place s) b (drop b s))
+      by-reading (shown_attribute (policy_place s) b) (λ (a : Attribute). at_attribute) (attribute (policy_place s) b (drop b s))
 
   first-stays : (x : Reading Policy) → Stays c (on_all (stay_step c) (first_in s c) x)
   first-stays (whole (group_sa x) []) = selector-stays at_destination (head_size s)

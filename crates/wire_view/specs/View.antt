@@ -1,6 +1,6 @@
 -- WHAT A VIEW SHOWS of some octets: the policy that they are, to their end; nothing, if they are none. Document 01: "For printing, a policy
 -- is shown as a view that holds a reference to its stretch of the frame".
-use Rattle.std.specs.Prelude.{ℕ, zero, suc, ◌+◌, ◌-◌, ◌*◌, ◌/◌, ◌%◌, List, [], ◌∷◌, ◌++◌, map, Bool, true, false, cond, ◌&&◌, leb, eqb, length, drop, get_or}
+use Rattle.std.specs.Prelude.{ℕ, zero, suc, ◌+◌, ◌-◌, ◌*◌, ◌/◌, ◌%◌, List, [], ◌∷◌, ◌++◌, map, Bool, true, false, cond, ◌&&◌, leb, eqb, length, drop, get_or, Option, Some, None}
 use Rattle.ikev2_numbers.specs.Codes.{addresses_at, no_protocol, policy_head_octets, structure_length_at}
 use Rattle.octets.specs.Numbers.{oct}
 use Rattle.octets.specs.Walk.{be16, Reading, whole, broken, Linked}
@@ -17,6 +17,7 @@ use Rattle.wire_view.specs.declared.items.Item.TheVariants as item
 use Rattle.wire_view.specs.declared.read.Kind.{Kind}
 use Rattle.wire_view.specs.declared.read.Kind.TheVariants as kind
 use Rattle.wire_view.specs.declared.read.Step.{Step}
+use Rattle.wire_view.specs.declared.View.{View}
 
 -- `f` of what was read, if no octet is left; `nothing` for every other reading
 abbrev pub on_all : {A B : Type 0} → B → (A → B) → Reading A → B
@@ -26,17 +27,20 @@ on_all nothing f (broken o) = nothing
 
 -- FIRST OCTET AND SPI. The first octet of each answer by document 01: "protocol (6 Rekey, 3 ESP, 2 AH)", "First octet 0: group-wide
 -- policy"; no policy has none
-abbrev pub first_octet : Kind → List ℕ
-first_octet (kind.GroupSa p) = p ∷ []
-first_octet kind.GroupWide = 0 ∷ []
-first_octet kind.Nothing = []
+abbrev pub octet_in : Kind → List ℕ
+octet_in (kind.GroupSa p) = p ∷ []
+octet_in kind.GroupWide = 0 ∷ []
 
-abbrev pub kind_in : Policy → Kind
-kind_in (group_sa x) = kind.GroupSa x.protocol
-kind_in (group_wide x) = kind.GroupWide
+abbrev pub first_octet : Option Kind → List ℕ
+first_octet (Some k) = octet_in k
+first_octet None = []
 
-abbrev pub shown_kind : List ℕ → Kind
-shown_kind s = on_all kind.Nothing kind_in (policy 0 s)
+abbrev pub kind_in : Policy → Option Kind
+kind_in (group_sa x) = Some (kind.GroupSa x.protocol)
+kind_in (group_wide x) = Some kind.GroupWide
+
+abbrev pub shown_kind : List ℕ → Option Kind
+shown_kind s = on_all None kind_in (policy 0 s)
 
 -- the first octet of the policy `s`; none if `s` is no policy
 abbrev pub octet_of : List ℕ → List ℕ
@@ -116,11 +120,11 @@ abbrev pub cursor_at : ℕ → ℕ → ℕ
 cursor_at b comes = parts * b + comes
 
 abbrev pub stay_step : ℕ → Step
-stay_step c = record { item = item.Nothing; next = c }
+stay_step c = record { item = None; next = c }
 
 -- the step over what is read at the cursor `c`: `show` says how it is shown, `comes` what comes behind it, where the octets left start
 abbrev pub stepped : {A : Type 0} → List ℕ → ℕ → (A → Item) → (A → ℕ) → Reading A → Step
-stepped s c show comes (whole a rest) = record { item = show a; next = cursor_at (length s - length rest) (comes a) }
+stepped s c show comes (whole a rest) = record { item = Some (show a); next = cursor_at (length s - length rest) (comes a) }
 stepped s c show comes (broken o) = stay_step c
 
 -- the steps over a selector, a transform and an attribute at the offset `b`. Behind a selector comes what `comes` says, behind a transform
@@ -164,24 +168,30 @@ abbrev pub step_at : List ℕ → ℕ → Step
 step_at s c = cond (is_counted s) (step_by s c (c % parts) (c / parts)) (stay_step c)
 
 -- the parts of a step: what stands at the cursor, the cursor behind it, and whether nothing stands there
-abbrev pub item_at : List ℕ → ℕ → Item
+abbrev pub item_at : List ℕ → ℕ → Option Item
 item_at s c = (step_at s c).item
 
 abbrev pub next_after : List ℕ → ℕ → ℕ
 next_after s c = (step_at s c).next
 
-abbrev pub is_nothing : Item → Bool
-is_nothing (item.Selector k p a b start end) = false
-is_nothing (item.Transform k i n f) = false
-is_nothing (item.Attribute m t k start end) = false
-is_nothing item.Nothing = true
+abbrev pub is_nothing : Option Item → Bool
+is_nothing (Some x) = false
+is_nothing None = true
 
 abbrev pub is_at_end : List ℕ → ℕ → Bool
 is_at_end s c = is_nothing (item_at s c)
 
 -- A WALK: what `n` steps show from the cursor `c` on, up to the end
+abbrev pub before : Option Item → List Item → List Item
+before (Some x) rest = x ∷ rest
+before None rest = []
+
 unfoldable pub shown_in : ℕ → List ℕ → ℕ → List Item
 shown_in zero s c = []
 shown_in (suc n) s c =
     let rest = shown_in n s (next_after s c) in
-    cond (is_at_end s c) [] (item_at s c ∷ rest)
+    before (item_at s c) rest
+
+-- ALL THAT A VIEW STILL SHOWS from its cursor on: a walk takes at most a step for each octet, and the first
+abbrev pub items_left : View → List Item
+items_left v = shown_in (suc (length v.src.now)) v.src.now v.at

@@ -1,5 +1,5 @@
 // A selector, a transform and an attribute as a view shows them.
-ghost use Rattle.std.specs.Prelude.{◌≡◌, map, Bool, true, ◌+◌, ◌<◌, ◌^◌, length, get_or};
+ghost use Rattle.std.specs.Prelude.{◌≡◌, map, Bool, true, ◌+◌, ◌<◌, ◌^◌, length, get_or, Some};
 ghost use Rattle.wire_attributes.specs.Attribute.{attribute_of, fits};
 ghost use Rattle.wire_attributes.specs.Layout.{attributes};
 ghost use Rattle.wire_attributes.specs.Tree.{number16};
@@ -42,7 +42,6 @@ pub enum Item {
         start: usize,
         end: usize,
     },
-    Nothing,
 }
 
 // Shows the selector `s`, which starts at the offset `base` of the policy.
@@ -89,18 +88,16 @@ pub fn transform_item(s: &[u8]) -> Item
 }
 
 // Shows the attribute at the start of `s`, which stands in `place` and at the offset `base` of the policy; nothing if it is cut short.
-pub fn attribute_item(place: Place, s: &[u8], base: usize) -> Item
+pub fn attribute_item(place: Place, s: &[u8], base: usize) -> Option<Item>
     requires { base + length s.now < 2 ^ 64 }
-    ensures { fits s.now ≡ true → result ≡ shown_attribute place base (attribute_of s.now) }
+    ensures { fits s.now ≡ true → result ≡ Some (shown_attribute place base (attribute_of s.now)) }
 {
-    match wire_attributes::read_attribute(s) {
-        Some(a) => Item::Attribute {
-            meaning: wire_attributes::tables::meaning_in(place, a.kind),
-            short: a.short,
-            kind: a.kind,
-            start: base + a.start,
-            end: base + a.end,
-        },
-        None => Item::Nothing,
-    }
+    let a = wire_attributes::read_attribute(s)?;
+    Some(Item::Attribute {
+        meaning: wire_attributes::tables::meaning_in(place, a.kind),
+        short: a.short,
+        kind: a.kind,
+        start: base + a.start,
+        end: base + a.end,
+    })
 }

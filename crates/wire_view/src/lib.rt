@@ -5,7 +5,8 @@
 #![tactic(auto)]
 
 ghost use Rattle.std.specs.Prelude.{◌≡◌, ◌+◌};
-ghost use Rattle.wire_view.specs.View.{first_octet, octet_of, shown_kind, shown_spi, spi_start, is_at_end, next_after, item_at, step_at};
+ghost use Rattle.std.specs.Iterator.{YieldsFirst, item_count};
+ghost use Rattle.wire_view.specs.View.{first_octet, octet_of, shown_kind, shown_spi, spi_start, is_at_end, next_after, item_at, step_at, items_left};
 
 pub mod items;
 pub mod read;
@@ -17,6 +18,21 @@ pub struct View<'a> {
     pub at: usize,
 }
 
+// Shows what stands at the cursor, and moves on: a loop over a view goes through all that it shows.
+impl<'a> Iterator for View<'a> {
+    type Item = items::Item;
+
+    ghost next_gives = { YieldsFirst items_left };
+
+    ghost remaining = { item_count items_left };
+
+    fn next(&mut self) -> Option<items::Item> {
+        let step = read::step_at(self.src, self.at);
+        self.at = step.next;
+        step.item
+    }
+}
+
 // Makes a view of the policy `src`, with the cursor at the start.
 pub fn new<'a>(src: &'a [u8]) -> View<'a>
     ensures { (result.src ≡ src.entry) × (result.at ≡ 0) }
@@ -24,8 +40,8 @@ pub fn new<'a>(src: &'a [u8]) -> View<'a>
     View { src, at: 0 }
 }
 
-// Answers which policy `v` shows: a Group SA policy with its protocol, a group-wide policy, or none.
-pub fn kind<'a>(v: View<'a>) -> read::Kind
+// Answers which policy `v` shows, if it shows one: a Group SA policy with its protocol, or a group-wide policy.
+pub fn kind<'a>(v: View<'a>) -> Option<read::Kind>
     ensures { (result ≡ shown_kind v.entry.src.now) × (first_octet result ≡ octet_of v.entry.src.now) }
 {
     read::kind_of(v.src)
@@ -56,8 +72,8 @@ pub fn moved<'a>(v: View<'a>) -> View<'a>
     }
 }
 
-// Answers what stands at the cursor of `v`.
-pub fn here<'a>(v: View<'a>) -> items::Item
+// Answers what stands at the cursor of `v`, if anything does.
+pub fn here<'a>(v: View<'a>) -> Option<items::Item>
     ensures { result ≡ item_at v.entry.src.now v.entry.at }
 {
     read::item_at(v.src, v.at)
@@ -92,14 +108,14 @@ pub fn shown_next(s: &[u8], at: usize) -> usize
 }
 
 // Answers what a view of `s` shows at the cursor `at`: `here` for a caller that holds no view.
-pub fn shown(s: &[u8], at: usize) -> items::Item
+pub fn shown(s: &[u8], at: usize) -> Option<items::Item>
     ensures { result ≡ item_at s.now at }
 {
     here(View { src: s, at })
 }
 
 // Answers which policy a view of `s` shows: `kind` for a caller that holds no view.
-pub fn shown_kind(s: &[u8]) -> read::Kind
+pub fn shown_kind(s: &[u8]) -> Option<read::Kind>
     ensures { (result ≡ shown_kind s.now) × (first_octet result ≡ octet_of s.now) }
 {
     kind(new(s))

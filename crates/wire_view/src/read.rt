@@ -1,44 +1,42 @@
 // Reads what a view shows, from a plain slice and a cursor.
-ghost use Rattle.std.specs.Prelude.{◌≡◌, ◌+◌, ◌<◌, length};
+ghost use Rattle.std.specs.Prelude.{◌≡◌, ◌+◌, ◌<◌, ◌≤◌, IsTrue, length};
 ghost use Rattle.wire_view.specs.View.{first_octet, octet_of, shown_kind, shown_spi, spi_start};
 ghost use Rattle.wire_view.specs.View.{cursor_at, stay_step, selector_step, transform_step, policy_place, attribute_step, first_step};
-ghost use Rattle.wire_view.specs.View.{step_by};
+ghost use Rattle.wire_view.specs.View.{step_by, is_counted};
 ghost use Rattle.wire_view.specs.View.{step_at, item_at, next_after, is_at_end};
 
 use crate::items::Item;
 use ikev2_numbers::{MORE_TRANSFORMS, NO_PROTOCOL, POLICY_HEAD, STRUCTURE_LENGTH_AT};
 use wire_attributes::tables::Place;
 
-// A Group SA policy by its protocol (6 Rekey, 3 ESP, 2 AH), a group-wide policy, or no policy.
+// A policy: a Group SA policy by its protocol (6 Rekey, 3 ESP, 2 AH), or a group-wide policy.
 #[derive(Clone, Copy)]
 pub enum Kind {
     GroupSa(usize),
     GroupWide,
-    Nothing,
 }
 
-// Answers which policy `s` is, from its first octet to its end.
-pub fn kind_of(s: &[u8]) -> Kind
+// Whether `s` has as many octets as its length field says.
+fn is_counted(s: &[u8]) -> bool
+    ensures counted { result ≡ is_counted s.now }
+    ensures short { IsTrue result → (4 ≤ length s.now) × (length s.now < 65536) }
+{
+    POLICY_HEAD <= s.len() && octets::numbers::be16_at(s, STRUCTURE_LENGTH_AT) == s.len()
+}
+
+// Answers which policy `s` is, from its first octet to its end, if it is one.
+pub fn kind_of(s: &[u8]) -> Option<Kind>
     ensures { (result ≡ shown_kind s.now) × (first_octet result ≡ octet_of s.now) }
 {
-    if s.len() < POLICY_HEAD {
-        return Kind::Nothing;
+    if !is_counted(s) {
+        return None;
     }
-    if octets::numbers::be16_at(s, STRUCTURE_LENGTH_AT) == s.len() {
-        match wire_policies::policy_spot(s, 0) {
-            Ok(_) => {
-                let p = octets::wide(s[0]);
-                if p == NO_PROTOCOL {
-                    return Kind::GroupWide;
-                }
-                return Kind::GroupSa(p);
-            }
-            Err(_) => {
-                return Kind::Nothing;
-            }
-        }
+    wire_policies::policy_spot(s, 0).ok()?;
+    let p = octets::wide(s[0]);
+    if p == NO_PROTOCOL {
+        return Some(Kind::GroupWide);
     }
-    Kind::Nothing
+    Some(Kind::GroupSa(p))
 }
 
 // Answers the SPI of the policy `s`, as a slice of `s`; empty for a group-wide policy and for no policy.
@@ -47,19 +45,18 @@ pub fn spi_of(s: &[u8]) -> &[u8]
         × (result.ref_ptr ≡ (s.entry.ref_ptr.0, spi_start s.now + s.entry.ref_ptr.1)) }
 {
     match kind_of(s) {
-        Kind::GroupSa(p) => {
+        Some(Kind::GroupSa(p)) => {
             let e = POLICY_HEAD + wire_policies::spi_size(p);
             &s[POLICY_HEAD..e]
         }
-        Kind::GroupWide => &s[0..0],
-        Kind::Nothing => &s[0..0],
+        _ => &s[0..0],
     }
 }
 
-// What stands at a cursor, and the cursor behind it.
+// What stands at a cursor, if anything does, and the cursor behind it.
 #[derive(Clone, Copy)]
 pub struct Step {
-    pub item: Item,
+    pub item: Option<Item>,
     pub next: usize,
 }
 
@@ -85,7 +82,7 @@ fn stay(c: usize) -> Step
     ensures { result ≡ stay_step c }
 {
     Step {
-        item: Item::Nothing,
+        item: None,
         next: c,
     }
 }
@@ -104,7 +101,7 @@ fn selector_step(s: &[u8], c: usize, comes: usize, at: usize) -> Step
             let end = at + e;
             let item = crate::items::selector_item(&s[at..end], at);
             Step {
-                item,
+                item: Some(item),
                 next: cursor_at(end, comes),
             }
         }
@@ -124,15 +121,14 @@ fn transform_step(s: &[u8], c: usize, at: usize) -> Step
         Ok(e) => {
             let end = at + e;
             let item = crate::items::transform_item(&s[at..end]);
-            if octets::wide(s[at]) == MORE_TRANSFORMS {
-                return Step {
-                    item,
-                    next: cursor_at(end, TRANSFORM),
-                };
-            }
+            let then = if octets::wide(s[at]) == MORE_TRANSFORMS {
+                TRANSFORM
+            } else {
+                ATTRIBUTE
+            };
             Step {
-                item,
-                next: cursor_at(end, ATTRIBUTE),
+                item: Some(item),
+                next: cursor_at(end, then),
             }
         }
         Err(_) => stay(c),
@@ -180,14 +176,14 @@ fn first_step(s: &[u8], c: usize) -> Step
     ensures { result ≡ first_step s.now c }
 {
     match kind_of(s) {
-        Kind::GroupSa(p) => selector_step(
+        Some(Kind::GroupSa(p)) => selector_step(
             s,
             c,
             DESTINATION,
             POLICY_HEAD + wire_policies::spi_size(p),
         ),
-        Kind::GroupWide => attribute_step(s, c, POLICY_HEAD),
-        Kind::Nothing => stay(c),
+        Some(Kind::GroupWide) => attribute_step(s, c, POLICY_HEAD),
+        None => stay(c),
     }
 }
 
@@ -196,16 +192,12 @@ fn step_by(s: &[u8], c: usize, comes: usize, at: usize) -> Step
     requires { (0 < length s.now) × (length s.now < 65536) }
     ensures { result ≡ step_by s.now c comes at }
 {
-    if comes == 0 {
-        return first_step(s, c);
+    match comes {
+        0 => first_step(s, c),
+        DESTINATION => selector_step(s, c, TRANSFORM, at),
+        TRANSFORM => transform_step(s, c, at),
+        _ => attribute_step(s, c, at),
     }
-    if comes == DESTINATION {
-        return selector_step(s, c, TRANSFORM, at);
-    }
-    if comes == TRANSFORM {
-        return transform_step(s, c, at);
-    }
-    attribute_step(s, c, at)
 }
 
 // Answers what stands at the cursor `c` of the policy `s`, and the cursor moved on; at the end the cursor stays. Shows nothing where the
@@ -213,40 +205,29 @@ fn step_by(s: &[u8], c: usize, comes: usize, at: usize) -> Step
 pub fn step_at(s: &[u8], c: usize) -> Step
     ensures { result ≡ step_at s.now c }
 {
-    if s.len() < POLICY_HEAD {
+    if !is_counted(s) {
         return stay(c);
     }
-    let n = octets::numbers::be16_at(s, STRUCTURE_LENGTH_AT);
-    if n == s.len() {
-        return step_by(s, c, c % PARTS, c / PARTS);
-    }
-    stay(c)
+    step_by(s, c, c % PARTS, c / PARTS)
 }
 
 // Answers what stands at the cursor `c` of the policy `s`.
-pub fn item_at(s: &[u8], c: usize) -> Item
+pub fn item_at(s: &[u8], c: usize) -> Option<Item>
     ensures { result ≡ item_at s.now c }
 {
-    let step = step_at(s, c);
-    step.item
+    step_at(s, c).item
 }
 
 // Answers the cursor `c` of the policy `s` moved on; at the end it stays.
 pub fn next_after(s: &[u8], c: usize) -> usize
     ensures { result ≡ next_after s.now c }
 {
-    let step = step_at(s, c);
-    step.next
+    step_at(s, c).next
 }
 
 // Whether nothing stands at the cursor `c` of the policy `s`.
 pub fn is_at_end(s: &[u8], c: usize) -> bool
     ensures { result ≡ is_at_end s.now c }
 {
-    match item_at(s, c) {
-        Item::Selector { .. } => false,
-        Item::Transform { .. } => false,
-        Item::Attribute { .. } => false,
-        Item::Nothing => true,
-    }
+    item_at(s, c).is_none()
 }

@@ -1,5 +1,5 @@
 use Rattle.std.proofs.Common.{◌∙◌}
-use Rattle.wire_view.proofs.StepLaws.{attribute-past, no-attribute, over-attribute}
+use Rattle.wire_view.proofs.StepLaws.{attribute-past, over-attribute}
 use Rattle.wire_view.proofs.read.attribute_step.Goals as goal
 
 pub returns-then-s-at : goal.returns-then-s-at

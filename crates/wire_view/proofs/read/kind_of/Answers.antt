@@ -1,31 +1,18 @@
-use mathlib.Core.Path.{sym, ◌∙◌}
-use Rattle.wire_view.proofs.KindLaws.{too_short, other-size, breaks, wide, sa, told}
+use Rattle.std.proofs.Common.{sym, ◌∙◌}
+use Rattle.wire_view.proofs.KindLaws.{uncounted, is-ok, wide, sa, told}
 use Rattle.wire_view.proofs.read.kind_of.Goals as goal
 
-pub returns-then-s-lt-POLICY_HEAD : goal.returns-then-s-lt-POLICY_HEAD
-returns-then-s-lt-POLICY_HEAD c = told _ _ (too_short c.args.s.now c.if-s-lt-POLICY_HEAD.true)
+pub returns-then-not-is_counted : goal.returns-then-not-is_counted
+returns-then-not-is_counted c = told _ _ (uncounted c.args.s.now (sym c.is_counted.ensures.counted ∙ c.if-not-is_counted.true))
 
 pub returns-then-p-eq-NO_PROTOCOL : goal.returns-then-p-eq-NO_PROTOCOL
 returns-then-p-eq-NO_PROTOCOL c =
-    let m = c.be16_at in
-    told _ _
-    (wide c.args.s.now m.result c.in-Ok.field-0 m.ensures.0 c.if-be16_at-s.true
-    c.in-Ok.ensures c.wide-p.result c.wide-p.ensures.0 c.if-p-eq-NO_PROTOCOL.true)
-
-pub returns-in-Ok : goal.returns-in-Ok
-returns-in-Ok c =
-    let m = c.be16_at in
-    told _ _
-    (sa c.args.s.now m.result c.in-Ok.field-0 m.ensures.0 c.if-be16_at-s.true
-    c.in-Ok.ensures c.wide-p.result c.wide-p.ensures.0 c.if-p-eq-NO_PROTOCOL.false)
-
-pub returns-in-Err : goal.returns-in-Err
-returns-in-Err c =
-    told _ _
-    (breaks c.args.s.now c.in-Err.field-0.at
-    c.in-Err.ensures)
+    let q = is-ok c.policy_spot.result _ c.in_ok-ok.ensures.value ∙ c.policy_spot.ensures in
+    let h = sym c.is_counted.ensures.counted ∙ c.if-not-is_counted.false in
+    told _ _ (wide c.args.s.now _ h q c.wide-p.result c.wide-p.ensures.0 c.if-p-eq-NO_PROTOCOL.true)
 
 pub returns : goal.returns
 returns c =
-    let m = c.be16_at in
-    told _ _ (other-size c.args.s.now m.result m.ensures.0 c.if-be16_at-s.false)
+    let q = is-ok c.policy_spot.result _ c.in_ok-ok.ensures.value ∙ c.policy_spot.ensures in
+    let h = sym c.is_counted.ensures.counted ∙ c.if-not-is_counted.false in
+    told _ _ (sa c.args.s.now _ h q c.wide-p.result c.wide-p.ensures.0 c.if-p-eq-NO_PROTOCOL.false)

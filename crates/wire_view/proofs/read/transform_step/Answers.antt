@@ -1,6 +1,8 @@
-use Rattle.std.proofs.Common.{arith, ◌∙◌}
+use Rattle.std.proofs.Common.{arith, ap, ◌∙◌, ◌+◌}
 use Rattle.wire_view.proofs.StepLaws.{transform-past, transform-inside, transform-there, over-transform, over_last}
+use Rattle.wire_view.specs.View.{cursor_at}
 use Rattle.wire_view.proofs.read.transform_step.Goals as goal
+use Rattle.wire_view.proofs.read.transform_step.Goals.{then-wide-eq-MORE_TRANSFORMS, else-wide-eq-MORE_TRANSFORMS}
 
 pub returns-then-s-at : goal.returns-then-s-at
 returns-then-s-at c = c.stay.ensures ∙ transform-past c.args.s.now c.args.c c.args.at c.if-s-at.true
@@ -16,18 +18,19 @@ bounds-s-at c =
     let i = transform-inside a.s.now a.c a.at c.if-s-at.false _ c.in-Ok.ensures in
     omega (arith, i.0, i.1)
 
-pub returns-then-wide-eq-MORE_TRANSFORMS : goal.returns-then-wide-eq-MORE_TRANSFORMS
-returns-then-wide-eq-MORE_TRANSFORMS c =
-    let r = c.transform_item-item in
-    let w = c.wide in
+pub returns-after-wide-eq-MORE_TRANSFORMS : goal.returns-after-wide-eq-MORE_TRANSFORMS
+returns-after-wide-eq-MORE_TRANSFORMS c =
     let a = c.args in
-    over-transform a.s.now a.c a.at c.if-s-at.false _ c.in-Ok.ensures r.result r.ensures w.result w.ensures.0
-    c.if-wide-eq-MORE_TRANSFORMS.true c.cursor_at.result c.cursor_at.ensures
-
-pub returns-else-wide-eq-MORE_TRANSFORMS : goal.returns-else-wide-eq-MORE_TRANSFORMS
-returns-else-wide-eq-MORE_TRANSFORMS c =
     let r = c.transform_item-item in
-    let w = c.wide in
-    let a = c.args in
-    over_last a.s.now a.c a.at c.if-s-at.false _ c.in-Ok.ensures r.result r.ensures w.result w.ensures.0
-    c.if-wide-eq-MORE_TRANSFORMS.false c.cursor_at-in-Ok.result c.cursor_at-in-Ok.ensures
+    let m = c.wide in
+    let n = c.cursor_at in
+    let e = c.in-Ok.ensures in
+    let h = c.if-s-at.false in
+    elim c.if-wide-eq-MORE_TRANSFORMS.branch [
+      | then-wide-eq-MORE_TRANSFORMS w ↦
+          over-transform a.s.now a.c a.at h _ e r.result r.ensures m.result m.ensures.0 w.if-wide-eq-MORE_TRANSFORMS.true n.result
+          (n.ensures ∙ ap (cursor_at (a.at + c.in-Ok.e)) w.then-is)
+      | else-wide-eq-MORE_TRANSFORMS w ↦
+          over_last a.s.now a.c a.at h _ e r.result r.ensures m.result m.ensures.0 w.if-wide-eq-MORE_TRANSFORMS.false n.result
+          (n.ensures ∙ ap (cursor_at (a.at + c.in-Ok.e)) w.then-is)
+    ]
