@@ -76,11 +76,11 @@ module _ (at : ℕ) (part s : List ℕ) (lp : 4 ≤ length part) (ls : at + 8 �
       (subst (λ (n : ℕ). Copied (take n (drop at s)) (mid_of 4 8 r) y) (let q : at + 8 - at ≡ 8 = omega arith in q) ey)
 
 -- ---- the header
-pub header_made : (s : List ℕ) → 28 ≤ length s → (size : ℕ) {h z : List ℕ} → Copied (take 28 s) (replicate 28 0) h → z ≡ octets_of 8 size
-    → set (set (set (set (set h 16 (oct s 28)) 24 (oct z 4)) 25 (oct z 5)) 26 (oct z 6)) 27 (oct z 7) ≡ header_with (oct s 28) size s
+pub header_made : (s : List ℕ) → 28 ≤ length s → (size : ℕ) {h z : List ℕ} → Copied (take 28 s) (replicate 28 0) h → z ≡ octets_of 4 size
+    → put_mid 24 4 (set h 16 (oct s 28)) z ≡ header_with (oct s 28) size s
 unfolding octets_of
 header_made s l size {h} {z} eh ez =
-    ap₂ (λ (p q : List ℕ). set (set (set (set (set p 16 (oct s 28)) 24 (oct q 4)) 25 (oct q 5)) 26 (oct q 6)) 27 (oct q 7)) whole ez
+    ap₂ (λ (p q : List ℕ). put_mid 24 4 (set p 16 (oct s 28)) q) whole ez
     ∙ sym (header-cells s l (oct s 28) size)
   where
     whole : h ≡ gen (oct s) 0 28

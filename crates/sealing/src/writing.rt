@@ -14,7 +14,6 @@ ghost use Rattle.rfc5282.specs.inner.Opened.{opened_of};
 use aes::{SCHEDULE_WORDS, TABLE_WORDS};
 use gcm::stream::gctr_in;
 use ikev2_numbers::{FIRST_PAYLOAD_AT, HEADER, LENGTH_AT};
-use octets::registers::octets_of;
 use rfc5282::CIPHERTEXT_AT;
 
 // Makes the opened frame's header: next payload and length set anew.
@@ -22,14 +21,10 @@ fn make_header(frame: &[u8], size: usize) -> [u8; 28]
     requires { (encrypted_body_at ≤ length frame.now) × (size < 65536) }
     ensures { result ≡ header_with (oct frame.now header_octets) size frame.now }
 {
-    let z = octets_of(size as u64);
     let mut h = [0u8; 28];
     octets::copying::copy(&frame[0..HEADER], &mut h);
     h[FIRST_PAYLOAD_AT] = frame[HEADER];
-    h[LENGTH_AT] = z[4];
-    h[LENGTH_AT + 1] = z[5];
-    h[LENGTH_AT + 2] = z[6];
-    h[LENGTH_AT + 3] = z[7];
+    h[LENGTH_AT..].copy_from_slice(&(size as u32).to_be_bytes());
     h
 }
 
