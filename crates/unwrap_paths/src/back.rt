@@ -12,7 +12,8 @@ pub struct Trail {
     pub count: usize,
 }
 
-// Finds the level of the key with this Key ID: that of the lowest entry that gives it, 0 if none does.
+// Finds the level of the key with this Key ID: that of the lowest entry that gives it, 0 if none does. Kept as a loop: the proof of
+// `zip(..).filter(..).map(..).min()` leaves open what it answers.
 pub fn level_of(ids: &[u32], levels: &[usize; WRAP_KEYS], n: usize, id: u32) -> usize
     requires { (n ≤ limits.wrap_keys) × (n ≤ length ids.now) }
     ensures { HasLevel n ids.now levels.now id result }
@@ -26,7 +27,7 @@ pub fn level_of(ids: &[u32], levels: &[usize; WRAP_KEYS], n: usize, id: u32) -> 
     found
 }
 
-// The entry of this Key ID and level with the lowest KWK ID, among the first n.
+// The entry of this Key ID and level with the lowest KWK ID, among the first n. Kept as a loop for the reason of `levels::lowest`.
 fn lowest_kwk(
     ids: &[u32],
     kwks: &[u32],

@@ -50,7 +50,8 @@ fn first_levels(marks: &[Mark], n: usize) -> [usize; WRAP_KEYS]
     out
 }
 
-// The entry of the lowest level whose key was not tried on the others yet.
+// The entry of the lowest level whose key was not tried on the others yet. Kept as a loop: the proof of `(0..n).filter(..).min_by_key(..)`
+// leaves open which entry it answers.
 fn lowest(levels: &[usize; WRAP_KEYS], tried: &[bool; WRAP_KEYS], n: usize) -> Option<usize>
     requires { n ≤ limits.wrap_keys }
     ensures { FindsLeast n levels.now tried.now result }
