@@ -82,25 +82,23 @@ pub(crate) fn open_entry(
         octets: [0u8; WRAPPING_KEY],
         count: 0,
     };
-    match open_under(tables, schedule, wrapped) {
-        None => Cell {
+    let Some(opened) = open_under(tables, schedule, wrapped) else {
+        return Cell {
             status: Status::Failed,
             key: none,
-        },
-        Some(opened) => {
-            let n = opened.count;
-            if n == size {
-                let key = WrappingKey::new(&opened.octets[..n]).unwrap_or(none);
-                return Cell {
-                    status: Status::Pending,
-                    key,
-                };
-            }
-            Cell {
-                status: Status::Wrong,
-                key: none,
-            }
-        }
+        };
+    };
+    let count = opened.count;
+    if count != size {
+        return Cell {
+            status: Status::Wrong,
+            key: none,
+        };
+    }
+    let key = WrappingKey::new(&opened.octets[..size]).unwrap_or(none);
+    Cell {
+        status: Status::Pending,
+        key,
     }
 }
 
