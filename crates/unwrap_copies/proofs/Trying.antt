@@ -2,7 +2,7 @@
 use Prim.Native.Nat.{ℕ}
 use mathlib.Core.Path.{◌≡◌, refl, ap, sym, ◌∙◌, subst}
 use mathlib.Core.List.{List, [], ◌∷◌}
-use borrow.Author.Tests.{eq-eqb, ne_eqb}
+use borrow.Author.Tests.{ne_eqb}
 use lib.ListN.{length}
 use Rattle.std.specs.Prelude.{Some}
 use Rattle.aes.specs.inner.Schedule.{ExpandsInverse}
@@ -13,24 +13,18 @@ use Rattle.unwrap_lending.specs.inner.Named.{octets_named}
 use Rattle.unwrap_copies.specs.declared.answer.CopyFound.TheVariants.{Nothing}
 use Rattle.unwrap_copies.specs.declared.answer.CopyOpened.{CopyOpened}
 use Rattle.unwrap_copies.specs.inner.Named.{try_of, try_for}
-use Rattle.unwrap_copies.specs.inner.Ready.{TriedUnder, Untried, IsReady}
+use Rattle.unwrap_copies.specs.inner.Ready.{TriedUnder, IsReady}
 use Rattle.unwrap_copies.specs.inner.Tries.{Try, CopyTells}
 use Rattle.unwrap_copies.proofs.Progress.{tells_none}
 
 -- ---- copies that name a key
 module _ (v : List ℕ) (new old : List HeldKey) where
-  pub under-zero : TriedUnder v new old 0 v
-  under-zero c k = rw (eq-eqb c.kwk_id 0 k) refl
-
   module _ (id : ℕ) (z : id ≡ 0 → ⊥) (key : List ℕ) (names : key ≡ octets_named id new old) where
     not-zero : (c : SaKey) → c.kwk_id ≡ id → c.kwk_id ≡ 0 → ⊥
     not-zero c k e = z (sym k ∙ e)
 
     value-is : (c : SaKey) → c.kwk_id ≡ id → octets_named c.kwk_id new old ≡ key
     value-is c k = ap (λ (j : ℕ). octets_named j new old) k ∙ sym names
-
-    pub under_none : length key ≡ 0 → Untried v new old id
-    under_none e c k = rw (ne_eqb c.kwk_id 0 (not-zero c k), value-is c k, eq-eqb (length key) 0 e) refl
 
     pub under-named : (length key ≡ 0 → ⊥) → TriedUnder v new old id key
     under-named e c k = rw (ne_eqb c.kwk_id 0 (not-zero c k), value-is c k, ne_eqb (length key) 0 e) refl

@@ -4,7 +4,7 @@ use Prim.Native.Nat.{ℕ, ◌-◌, ◌≤◌}
 use mathlib.Core.Path.{◌≡◌, refl, ap, sym, ◌∙◌, subst}
 use mathlib.Core.Bool.{Bool, true, false, cond, ◌&&◌}
 use mathlib.Core.List.{List, []}
-use borrow.Author.Tests.{eq-eqb, ne_eqb, eqb-true}
+use borrow.Author.Tests.{eq-eqb, eqb-true}
 use lib.Dec.{eqb}
 use lib.ListN.{length, take, drop, replicate, length-replicate}
 use lib.Seq.{take_at, take-append_seam}
@@ -76,12 +76,6 @@ named-not k e c h q w =
     let f : naming k e c ≡ true = ap (λ (t : Bool). t && waiting c.status) (eq-eqb e.kwk k q) ∙ ap waiting w in
     let z : ◌≡◌ {A = ℕ} 0 1 = cc in
     omega arith
-
-pub naming-here : (k : ℕ) (e : Entry) (c : Cell) (b : Bool) → e.kwk ≡ k → b ≡ waiting c.status → b ≡ naming k e c
-naming-here k e c b q h = h ∙ sym (ap (λ (t : Bool). t && waiting c.status) (eq-eqb e.kwk k q))
-
-pub naming-other : (k : ℕ) (e : Entry) (c : Cell) → (e.kwk ≡ k → ⊥) → false ≡ naming k e c
-naming-other k e c q = sym (ap (λ (t : Bool). t && waiting c.status) (ne_eqb e.kwk k q))
 
 module _ (frame : List ℕ) (place : Entry) (e : WrapKey) (is : IsEntry frame place e) (k : ℕ) (v : List ℕ) (size : ℕ) (c : Cell) where
   pub tried-opened : true ≡ naming k place c → (r : Cell) → Landed v size (part frame place.start place.end) r → Tried k v size e c r

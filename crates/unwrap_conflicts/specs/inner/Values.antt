@@ -25,13 +25,6 @@ is_done Wrong = false
 is_done Pending = false
 is_done Done = true
 
-abbrev pub is_wrong : Status → Bool
-is_wrong Waiting = false
-is_wrong Failed = false
-is_wrong Wrong = true
-is_wrong Pending = false
-is_wrong Done = false
-
 -- entries e and f, whose cells are c and d, give one key two values
 pub record Clash (e : Entry) (c : Cell) (f : Entry) (d : Cell) : Type 0 where
   pub id : e.id ≡ f.id
