@@ -121,16 +121,17 @@ impl Member {
     pub fn receive(self, frame: &[u8], lent: &[u8], tick: u32) -> Received
         ensures { Receives self tick lent.now frame.now result.answer result.member }
     {
-        let state = self.state;
-        match wire_frames::layout_with_profile(state.profile, frame) {
-            Err(broken) => self.refuse(Answer::BrokenLayout(broken.at)),
-            Ok(()) => match judge(state, frame, lent, tick) {
-                Ok(next) => Received {
-                    answer: Answer::Accepted,
-                    member: Member { state: next },
-                },
-                Err(refusal) => self.refuse(refusal.into()),
+        let mut member = self;
+        let answer = match wire_frames::layout_with_profile(member.state.profile, frame) {
+            Err(broken) => Answer::BrokenLayout(broken.at),
+            Ok(()) => match judge(member.state, frame, lent, tick) {
+                Ok(next) => {
+                    member.state = next;
+                    Answer::Accepted
+                }
+                Err(refusal) => refusal.into(),
             },
-        }
+        };
+        Received { answer, member }
     }
 }

@@ -1,3 +1,4 @@
+use mathlib.Core.Path.{refl}
 use Rattle.gikev2.proofs.ReceiveLaws.{whole-tree, no-tree, receives-broken, receives-tree, receives-refused}
 use Rattle.gikev2.proofs.Member.receive.Goals as goal
 
@@ -11,11 +12,9 @@ pub returns-in-Err : goal.returns-in-Err
 returns-in-Err c =
     let a = c.args in
     let r = c.layout_with_profile in
-    let x = c.refuse.result in
-    let e = c.refuse.ensures in
     receives-broken a.self a.tick a.lent.now a.frame.now c.in-Err.broken.at
-    (no-tree a.self.state.profile a.frame.now r.result r.ensures.layout c.in-Err.broken.at c.in-Err.is) x.answer x.member
-    e.0 e.1
+    (no-tree a.self.state.profile a.frame.now r.result r.ensures.layout c.in-Err.broken.at c.in-Err.is) _ _
+    refl refl
 
 pub returns-in-Ok-judge : goal.returns-in-Ok-judge
 returns-in-Ok-judge c =
@@ -29,6 +28,5 @@ returns-in-Err-judge c =
     let a = c.args in
     let r = c.layout_with_profile in
     let t = whole-tree a.self.state.profile a.frame.now r.result r.ensures.layout c.in-Ok.is in
-    let e = c.refuse-in-Err-judge.ensures in
     receives-refused a.self a.tick a.lent.now a.frame.now t.0 t.1 c.in-Err-judge.refusal (c.in-Err-judge.ensures t.0 t.1) c.into.result
-    c.into.ensures _ _ e.0 e.1
+    c.into.ensures _ _ refl refl
