@@ -20,8 +20,8 @@ use rfc5282::{FRAGMENT_NUMBER_AT, TOTAL_FRAGMENTS_AT};
 use sealing::fragment::{is_fragment, piece_length, write_piece};
 use state_keys::kinds::EncryptionKey;
 
-// What becomes of a fragment.
-#[derive(Clone, Copy)]
+// What becomes of a fragment. Kept as one list and not a `Result`: a fragment that is passed over or waits is neither refused nor accepted.
+#[derive(Clone, Copy, Debug, PartialEq, Eq)]
 pub enum FragmentAnswer {
     // refused; member, room and collection are as they were
     Refused(Answer),
@@ -97,11 +97,9 @@ impl Member {
     {
         let n = gathered.write_whole(room);
         let x = self.receive(&room[0..n], b"", tick);
-        let answer = x.answer;
-        let member = x.member;
         Gathered {
-            answer: FragmentAnswer::Complete(answer),
-            member,
+            answer: FragmentAnswer::Complete(x.answer),
+            member: x.member,
             collection: Collection::new(),
         }
     }
@@ -150,8 +148,7 @@ impl Member {
             room.new }
     {
         let f = names_in(frame);
-        let state = self.state;
-        if number_3(state, GSA_REKEY, f.id) {
+        if number_3(self.state, GSA_REKEY, f.id) {
             return self.refuse_fragment(Answer::Replayed, collection);
         }
         if MOST_FRAGMENTS < f.total {
@@ -181,9 +178,7 @@ impl Member {
             result.collection
             room.new }
     {
-        let state = self.state;
-        let t = state.table;
-        let key = sealing_key(t);
+        let key = sealing_key(self.state.table);
         match piece_length(key, frame, room.len()) {
             None => self.refuse_fragment(Answer::Unopened, collection),
             Some(p) => self.judge_piece(collection, key, frame, p, room, tick),
@@ -204,13 +199,12 @@ impl Member {
             result.collection
             room.new }
     {
-        if is_fragment(frame) {
-            let state = self.state;
-            if is_not_for(state, frame, tick) {
-                return self.refuse_fragment(Answer::NotForMember, collection);
-            }
-            return self.open_fragment(collection, frame, room, tick);
+        if !is_fragment(frame) {
+            return self.refuse_fragment(Answer::BrokenLayout(0), collection);
         }
-        self.refuse_fragment(Answer::BrokenLayout(0), collection)
+        if is_not_for(self.state, frame, tick) {
+            return self.refuse_fragment(Answer::NotForMember, collection);
+        }
+        self.open_fragment(collection, frame, room, tick)
     }
 }

@@ -48,12 +48,10 @@ impl Member {
         requires { (outer frame.now ≡ true) × (applies (sealed_number2 limits self.state tick (header_of frame.now)) ≡ false) }
         ensures { ReceivesSealed self tick frame.now room.old result.answer result.member room.new }
     {
-        let state = self.state;
-        let t = state.table;
-        let key = sealing_key(t);
+        let key = sealing_key(self.state.table);
         match sealing::open_frame(key, frame, room) {
             None => self.refuse(Answer::Unopened),
-            Some(n) => self.receive(&room[0..n], &frame[0..0], tick),
+            Some(n) => self.receive(&room[0..n], b"", tick),
         }
     }
 
@@ -63,13 +61,12 @@ impl Member {
     pub fn receive_sealed(self, frame: &[u8], room: &mut [u8], tick: u32) -> Received
         ensures { ReceivesSealed self tick frame.now room.old result.answer result.member room.new }
     {
-        if sealing::is_outer(frame) {
-            let state = self.state;
-            if is_not_for(state, frame, tick) {
-                return self.refuse(Answer::NotForMember);
-            }
-            return self.open_sealed(frame, room, tick);
+        if !sealing::is_outer(frame) {
+            return self.refuse(Answer::BrokenLayout(0));
         }
-        self.refuse(Answer::BrokenLayout(0))
+        if is_not_for(self.state, frame, tick) {
+            return self.refuse(Answer::NotForMember);
+        }
+        self.open_sealed(frame, room, tick)
     }
 }

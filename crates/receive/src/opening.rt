@@ -28,8 +28,8 @@ use wire_frames::exchanges::Exchange;
 use wire_readers::Stretch;
 
 // Whether refusal 8 holds of the frame's entries. If it does not: the result for its SAs. If each SA has its key: whether the held list
-// after acceptance would be over its limit (refusal 7), and if not, that list. Here and in what it holds arrays stand before flags: behind
-// a flag the compiler gives an array that is handed on more room.
+// after acceptance would be over its limit (refusal 7), and if not, that list. Kept as flags behind arrays, here and in what it holds: behind
+// a flag, and so behind the tag of an `Option`, the compiler gives an array that is handed on more room (docs/landings/T-11.md).
 #[derive(Clone, Copy)]
 pub struct KeysFound {
     pub keyed: Keyed,
@@ -42,20 +42,14 @@ pub struct KeysFound {
 fn named_count(named: bool, count: usize) -> usize
     ensures { result ≡ cond named count 0 }
 {
-    if named {
-        return count;
-    }
-    0
+    if named { count } else { 0 }
 }
 
 // Answers the list that a frame finds: `held`, but an exchange that sets the list (`registers`) takes none over.
 fn held_before(registers: bool, held: Held) -> Held
     ensures { result ≡ held_before limits registers held }
 {
-    if registers {
-        return Held::new();
-    }
-    held
+    if registers { Held::new() } else { held }
 }
 
 // Answers the held list after acceptance, or that it would be over its limit. `openers` are the KWK IDs of the copies of the Rekey SA's key

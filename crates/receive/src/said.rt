@@ -1,7 +1,7 @@
 // Collects what a frame says of the member afterwards, out of its facts.
-ghost use Rattle.std.specs.Prelude.{◌≡◌, ◌-◌, ◌≤◌, length};
+ghost use Rattle.std.specs.Prelude.{◌≡◌, ◌≤◌, length};
 ghost use Rattle.octets.specs.Walk.{be32};
-ghost use Rattle.ikev2_numbers.specs.Codes.{header_octets, message_id_at, payload_header_octets};
+ghost use Rattle.ikev2_numbers.specs.Codes.{header_octets, message_id_at};
 ghost use Rattle.receive.specs.inner.Saying.{said_by};
 
 use apply::next::Said;
@@ -10,16 +10,6 @@ use check_judging::facts::Facts;
 use ikev2_numbers::{MESSAGE_ID_AT, PAYLOAD_HEADER};
 use wire_frames::exchanges::Exchange;
 
-// Subtracts the octets of a payload header from `n`. Answers 0 if `n` is smaller.
-fn four_less(n: usize) -> usize
-    ensures { result ≡ n - payload_header_octets }
-{
-    if n < PAYLOAD_HEADER {
-        return 0;
-    }
-    n - PAYLOAD_HEADER
-}
-
 // Collects what the frame `s` says of the member afterwards. `row` is the row of its exchange, and `x` are its facts.
 pub fn said(row: Exchange, s: &[u8], x: Facts) -> Said
     requires { header_octets ≤ length s.now }
@@ -27,20 +17,17 @@ pub fn said(row: Exchange, s: &[u8], x: Facts) -> Said
 {
     let b = x.payloads;
     let p = x.policies;
-    let d = b.delete;
     let id = octets::numbers::be32_at(s, MESSAGE_ID_AT);
-    let start = four_less(d.start);
-    let least = row.least;
-    let deletes = DeletesAt {
-        count: b.deletes,
-        start,
-    };
+    let start = b.delete.start.saturating_sub(PAYLOAD_HEADER);
     Said {
         delay: p.delay,
         rekey: 0 < p.rekeys,
         initial: p.initial,
-        least,
+        least: row.least,
         id,
-        deletes,
+        deletes: DeletesAt {
+            count: b.deletes,
+            start,
+        },
     }
 }

@@ -11,7 +11,7 @@ names_in-f-requires c = long-enough c.requires.outside
 
 pub returns-then-number_3 : goal.returns-then-number_3
 returns-then-number_3 c =
-    let o : Octets c.args.frame.now = λ i. (c.shared_slice_known-1.given i).fits in
+    let o : Octets c.args.frame.now = λ i. (c.type_inv.frame i).fits in
     let u = c.requires in
     let f = c.names_in-f.ensures in
     given-as c.refuse_fragment.ensures
@@ -19,7 +19,7 @@ returns-then-number_3 c =
 
 pub returns-then-f-gt-MOST_FRAGMENTS : goal.returns-then-f-gt-MOST_FRAGMENTS
 returns-then-f-gt-MOST_FRAGMENTS c =
-    let o : Octets c.args.frame.now = λ i. (c.shared_slice_known-1.given i).fits in
+    let o : Octets c.args.frame.now = λ i. (c.type_inv.frame i).fits in
     let u = c.requires in
     let f = c.names_in-f.ensures in
     given-as c.refuse_fragment-then-f-gt-MOST_FRAGMENTS.ensures
@@ -28,14 +28,14 @@ returns-then-f-gt-MOST_FRAGMENTS c =
 
 pub place-requires : goal.place-requires
 place-requires c =
-    let o : Octets c.args.frame.now = λ i. (c.shared_slice_known-1.given i).fits in
+    let o : Octets c.args.frame.now = λ i. (c.type_inv.frame i).fits in
     let u = c.requires in
     let f = c.names_in-f.ensures in
     counts-one c.args.collection o u f c.number_3.ensures c.if-number_3.false
 
 pub keep_piece-requires : goal.keep_piece-requires
 keep_piece-requires c =
-    let o : Octets c.args.frame.now = λ i. (c.shared_slice_known-1.given i).fits in
+    let o : Octets c.args.frame.now = λ i. (c.type_inv.frame i).fits in
     let u = c.requires in
     let f = c.names_in-f.ensures in
     let l = c.if-f-gt-MOST_FRAGMENTS.false in
@@ -45,7 +45,7 @@ keep_piece-requires c =
 
 pub returns-in-Passed : goal.returns-in-Passed
 returns-in-Passed c =
-    let o : Octets c.args.frame.now = λ i. (c.shared_slice_known-1.given i).fits in
+    let o : Octets c.args.frame.now = λ i. (c.type_inv.frame i).fits in
     let u = c.requires in
     let f = c.names_in-f.ensures in
     let l = c.if-f-gt-MOST_FRAGMENTS.false in
@@ -54,7 +54,7 @@ returns-in-Passed c =
 
 pub returns-in-TooLong : goal.returns-in-TooLong
 returns-in-TooLong c =
-    let o : Octets c.args.frame.now = λ i. (c.shared_slice_known-1.given i).fits in
+    let o : Octets c.args.frame.now = λ i. (c.type_inv.frame i).fits in
     let u = c.requires in
     let f = c.names_in-f.ensures in
     let l = c.if-f-gt-MOST_FRAGMENTS.false in

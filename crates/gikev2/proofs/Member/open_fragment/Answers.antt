@@ -24,13 +24,13 @@ piece_length-requires c =
 
 pub judge_piece-requires : goal.judge_piece-requires
 judge_piece-requires c =
-    let o : Octets c.args.frame.now = λ i. (c.shared_slice_known-1.given i).fits in
+    let o : Octets c.args.frame.now = λ i. (c.type_inv.frame i).fits in
     opened c.args.collection o c.requires c.sealing_key-key.ensures c.piece_length.result
     (c.piece_length.ensures c.args.room.now refl) c.in-Some.p c.in-Some.is
 
 pub returns-in-None : goal.returns-in-None
 returns-in-None c =
-    let o : Octets c.args.frame.now = λ i. (c.shared_slice_known-1.given i).fits in
+    let o : Octets c.args.frame.now = λ i. (c.type_inv.frame i).fits in
     given-as c.refuse_fragment.ensures
     (not_opened c.args.collection o c.requires c.sealing_key-key.ensures c.piece_length.result
     (c.piece_length.ensures c.args.room.now refl) c.in-None.is)

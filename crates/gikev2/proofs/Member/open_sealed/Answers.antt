@@ -27,7 +27,7 @@ pub returns-in-None : goal.returns-in-None
 returns-in-None c =
     let a = c.args in
     let k = c.sealing_key-key in
-    let o : Octets a.frame.now = λ i. (c.shared_slice_known-1.given i).fits in
+    let o : Octets a.frame.now = λ i. (c.type_inv.frame i).fits in
     let x = c.refuse.result in
     let e = c.refuse.ensures in
     not-opened-given a.self a.tick a.frame.now a.room.now (encryption_octets_of k.result) c.open_frame.result
@@ -38,7 +38,7 @@ pub returns-in-Some : goal.returns-in-Some
 returns-in-Some c =
     let a = c.args in
     let k = c.sealing_key-key in
-    let o : Octets a.frame.now = λ i. (c.shared_slice_known-1.given i).fits in
+    let o : Octets a.frame.now = λ i. (c.type_inv.frame i).fits in
     let x = c.receive.result in
     opened-given a.self a.tick a.frame.now a.room.now (encryption_octets_of k.result) c.open_frame.result
     c.open_frame.new.room c.open_frame.ensures o c.requires.0 c.requires.1 (key-part a.self k.result k.ensures)

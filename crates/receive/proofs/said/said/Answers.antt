@@ -15,5 +15,5 @@ returns c =
       initial = p.initial;
       least = a.row.least;
       id = c.be32_at-id.ensures i;
-      deletes = record { count = a.x.payloads.deletes; start = c.four_less-start.ensures i };
+      deletes = record { count = a.x.payloads.deletes; start = c.saturating_sub-start.ensures i };
     }
