@@ -2,7 +2,6 @@
 use native.Mathlib.Omega.{arith}
 use Prim.Native.Nat.{ℕ, ◌-◌, ◌≤◌, ◌<◌}
 use mathlib.Core.Path.{◌≡◌, ap, sym, ◌∙◌}
-use mathlib.Core.Bool.{true, false}
 use mathlib.Core.Logic.{◌⊎◌, inl, inr}
 use mathlib.Core.List.{List, ◌++◌}
 use borrow.Author.Tests.{eq-eqb, ne_eqb}
@@ -13,8 +12,7 @@ use Rattle.lists.proofs.Parts.{copied}
 use Rattle.state_sa.specs.Entry.{rekey_protocol}
 use Rattle.state_sa.specs.declared.entry.Sa.{Sa}
 use Rattle.gikev2.specs.declared.SaAnswer.{SaAnswer}
-use Rattle.gikev2.specs.Member.{answer_of, no_answer, answered}
-use Rattle.std.specs.Prelude.{Option, is_some}
+use Rattle.gikev2.specs.Member.{answer_of}
 
 -- the octets in use, of an array of m: as many as a count says, or all of them
 module _ (m n count : ℕ) where

@@ -1,7 +1,7 @@
 -- Key 0 of a frame: the lent key of a registration, the default key of the live Rekey SA of a rekey.
 use native.Mathlib.Omega.{arith}
 use Prim.Native.Nat.{ℕ, ◌+◌}
-use mathlib.Core.Path.{◌≡◌, refl, ap, sym, subst, ◌∙◌}
+use mathlib.Core.Path.{◌≡◌, ap, sym, subst, ◌∙◌}
 use mathlib.Core.Bool.{true, false, ◌&&◌}
 use mathlib.Core.List.{List}
 use borrow.Author.Tests.{eqb-true}
@@ -11,7 +11,7 @@ use lib.Seq.{length-take-le}
 use Rattle.state_keys.specs.Limits.{limits}
 use Rattle.lists.specs.Lists.{any}
 use Rattle.state_keys.specs.Algorithms.{is_wrapping_size}
-use Rattle.state_keys.specs.Kinds.{wrapping_of, wrapping_key, rekey_sizes, key_wrap_part}
+use Rattle.state_keys.specs.Kinds.{wrapping_of, rekey_sizes, key_wrap_part}
 use Rattle.lists.proofs.Cases.{and_parts}
 use Rattle.state_keys.proofs.Sizes.{rekey-parts, rekey-le}
 use Rattle.state_sa.specs.Entry.{esp_protocol, rekey_protocol, is_live, sa_sized, fit_lifetime, sa_formed, live_rekey}
