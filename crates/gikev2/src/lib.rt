@@ -20,6 +20,7 @@ pub struct Member {
 
 // The answer of `Member::sa`, where the member has the SA: its keying octets, the octet counts of their two parts (of a Rekey SA), its
 // condition and its lifetime. All else is blank.
+// Kept as an array with its count, since memory is fixed.
 #[derive(Clone, Copy)]
 pub struct SaAnswer {
     pub octets: [u8; SA_OCTETS],

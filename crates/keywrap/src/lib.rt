@@ -22,6 +22,7 @@ use aes::{INVERSE_TABLE_WORDS, InverseSchedule, SCHEDULE_WORDS};
 use sizes::{LEAST_WRAPPED, MOST_OCTETS, MOST_WRAPPED, REGISTERS};
 
 // What `open_under` opened: the octets with zeros behind them, and how many they are.
+// Kept as an array with its count, since memory is fixed.
 #[derive(Clone, Copy)]
 pub struct Opened {
     pub octets: [u8; MOST_OCTETS],

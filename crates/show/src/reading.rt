@@ -11,6 +11,7 @@ const OCTETS: usize = TICK + MOST_OCTETS;
 const DIGITS: usize = 2 * OCTETS;
 
 // What was read of the input. Of a line that is too long one digit more than the most is held, which tells that it is.
+// Kept as an array with its count, since memory is fixed.
 #[derive(Drop)]
 pub(crate) struct Reading {
     // the digits of the line so far, `held` of them, and room for its octets

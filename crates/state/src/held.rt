@@ -16,6 +16,7 @@ pub struct HeldKey {
 }
 
 // The held list: its keys are the first `count` of `keys`.
+// Kept as an array with its count, since memory is fixed.
 #[derive(Clone, Copy, PartialEq, Eq)]
 pub struct Held {
     pub keys: [HeldKey; HELD_KEYS],

@@ -9,6 +9,7 @@ ghost use Rattle.state_keys.specs.Kinds.{key_wrap_part, encryption_part};
 use crate::rooms::{ENCRYPTION_KEY, SA_OCTETS, WRAPPING_KEY};
 
 // A wrapping key: 16, 24 or 32 octets.
+// Kept as an array with its count, since memory is fixed.
 #[derive(Clone, Copy, PartialEq, Eq)]
 pub struct WrappingKey {
     pub octets: [u8; WRAPPING_KEY],
@@ -16,6 +17,7 @@ pub struct WrappingKey {
 }
 
 // The keying octets of an ESP SA: 20, 28 or 36 octets.
+// Kept as an array with its count, since memory is fixed.
 #[derive(Clone, Copy)]
 pub struct EspKey {
     pub octets: [u8; ENCRYPTION_KEY],
@@ -23,6 +25,7 @@ pub struct EspKey {
 }
 
 // The encryption part of a Rekey SA's keying octets, GSK_e: 20, 28 or 36 octets.
+// Kept as an array with its count, since memory is fixed.
 #[derive(Clone, Copy)]
 pub struct EncryptionKey {
     pub octets: [u8; ENCRYPTION_KEY],
@@ -30,6 +33,7 @@ pub struct EncryptionKey {
 }
 
 // The keying octets of a Rekey SA with the octet counts of their two parts, GSK_e and then GSK_w.
+// Kept as an array with its count, since memory is fixed.
 #[derive(Clone, Copy)]
 pub struct RekeyKey {
     pub octets: [u8; SA_OCTETS],

@@ -37,6 +37,7 @@ pub enum Lifetime {
 pub const MOST_SECONDS: u32 = 2000000;
 
 // An SA. Of `octets` the first `count` are its keying octets; in a Rekey SA these are a part of `encryption` octets and one of `wrapping`.
+// Kept as an array with its count, since memory is fixed.
 #[derive(Clone, Copy, PartialEq, Eq)]
 pub struct Sa {
     pub protocol: u8,

@@ -13,6 +13,7 @@ use state_keys::limits::SAS;
 use state_sa::entry::Sa;
 
 // A table: its SAs are the first `count` of `sas`.
+// Kept as an array with its count, since memory is fixed.
 #[derive(Clone, Copy, PartialEq, Eq)]
 pub struct Table {
     pub sas: [Sa; SAS],

@@ -167,6 +167,7 @@ pub const MOST_KEY_DIGITS: usize = 64;
 pub const MOST_KEY_OCTETS: usize = 32;
 
 // The default key: the first `len` octets. The places behind them are 0.
+// Kept as an array with its count, since memory is fixed.
 #[derive(Clone, Copy)]
 pub struct LineKey {
     pub octets: [u8; MOST_KEY_OCTETS],

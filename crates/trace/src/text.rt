@@ -4,6 +4,7 @@ ghost use Rattle.std.specs.Prelude.{◌≤◌};
 use std::fmt;
 
 // Text of at most `ROOM` octets.
+// Kept as an array with its count, since memory is fixed.
 #[derive(Drop)]
 pub(crate) struct Text<const ROOM: usize> {
     room: [u8; ROOM],

@@ -22,6 +22,7 @@ pub enum CopyFound {
 }
 
 // The result of opening copies. With `Key`, the value is the first `count` of `octets`, with blanks behind it.
+// Kept as an array with its count, since memory is fixed.
 #[derive(Clone, Copy)]
 pub struct CopyOpened {
     pub found: CopyFound,
@@ -30,6 +31,7 @@ pub struct CopyOpened {
 }
 
 // The KWK IDs of copies that opened, the first `count` of `ids`.
+// Kept as an array with its count, since memory is fixed.
 #[derive(Clone, Copy)]
 pub struct Openers {
     pub ids: [u32; SA_KEYS],

@@ -6,6 +6,7 @@ ghost use Rattle.unwrap_paths.specs.inner.Code.{Picks, HasLevel, GoesBack};
 use state_keys::limits::WRAP_KEYS;
 
 // The places of the entries of a path, the last one first.
+// Kept as an array with its count, since memory is fixed.
 #[derive(Clone, Copy)]
 pub struct Trail {
     pub places: [usize; WRAP_KEYS],

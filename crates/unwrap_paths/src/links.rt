@@ -11,6 +11,7 @@ use unwrap_search::open::{Cell, Entry};
 use unwrap_search::search::is_carried;
 
 // Key IDs, KWK IDs and levels of the entries, by their places. The entries are the first `count`.
+// Kept as an array with its count, since memory is fixed.
 #[derive(Clone, Copy)]
 pub struct Links {
     pub ids: [u32; WRAP_KEYS],

@@ -29,6 +29,7 @@ pub enum SasFault {
 // The result for all SAs that a frame announces. If each has its key, the new SAs are the first `count` of `sas`, and `openers` are the KWK
 // IDs of the copies of the Rekey SA's key that open. Kept as arrays with the result behind them: behind a mark the compiler gives an array
 // that is handed on more room (docs/landings/T-11.md).
+// Kept as an array with its count, since memory is fixed.
 #[derive(Clone, Copy)]
 pub struct Keyed {
     pub sas: [Sa; NEW_SAS],

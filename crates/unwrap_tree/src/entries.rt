@@ -15,6 +15,7 @@ use wire_attributes::attribute_value;
 use wire_readers::values::next_attribute;
 
 // A list of entries: the first `count` of `places`.
+// Kept as an array with its count, since memory is fixed.
 #[derive(Clone, Copy)]
 pub struct Listing {
     pub places: [Entry; WRAP_KEYS],
