@@ -1,6 +1,6 @@
 // For tests: calls `receive`, `sweep`, `leave` and `sa` on member values that break the list of what a member is, and prints what they
 // give. No line of input and no call of the library makes such a value. The first two values keep the list. Before these values the program
-// prints what its own comparison of members tells apart; after them it tries frames over the member's own channel.
+// prints what `==` of two members tells apart; after them it tries frames over the member's own channel.
 #![tactic(auto)]
 
 mod apart;
