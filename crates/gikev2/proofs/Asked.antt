@@ -51,7 +51,7 @@ module _ (m : Member) (now : ℕ) (lent s : List ℕ) (f : Frame) (e : IsFrame m
   answered-after p i =
       let w = asked-after limits m.state now lent s f e next.state r.outcome p i in
       let a = w.sa in
-            let rekey : p.protocol ≡ 6 → eqb a.protocol 6 ≡ true = λ q. eq-eqb a.protocol 6 (w.protocol ∙ q) in
+      let rekey : p.protocol ≡ 6 → eqb a.protocol 6 ≡ true = λ q. eq-eqb a.protocol 6 (w.protocol ∙ q) in
       let esp : p.protocol ≡ 3 → eqb a.protocol 6 ≡ false =
       λ q. let z = w.protocol in ne_eqb a.protocol 6 (λ h. omega arith) in
       record {

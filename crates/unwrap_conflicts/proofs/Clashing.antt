@@ -33,4 +33,3 @@ module _ (cells : List Cell) (i : ℕ) (d : Cell) (h : i < length cells) where
       P (get_or places i no_entry) (cell_at cells i)
   both_at P places dE g p =
       subst (λ (e : Entry). P e (cell_at cells i)) (get_d_any places i dE no_entry g) (subst (P (get_or places i dE)) cell-is p)
-

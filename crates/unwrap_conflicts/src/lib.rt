@@ -40,7 +40,10 @@ pub fn any_clash(entries: &[Entry], cells: &[Cell]) -> bool
     requires { length entries.now ≤ length cells.now }
     ensures { Decides result (AnyClash entries.now cells.now (length entries.now)) }
 {
-    entries.iter().zip(cells).any(|(e, c)| clashes(e, c, entries, cells))
+    entries
+        .iter()
+        .zip(cells)
+        .any(|(e, c)| clashes(e, c, entries, cells))
 }
 
 // Whether one of the entries of `cells` opened to a wrong size.

@@ -131,7 +131,15 @@ pub fn search(
     while let Some(j) = first_pending(&cells[..entries.len()]) {
         let key = cells[j].key;
         cells[j].status = Status::Done;
-        try_key(frame, &tables, key, size, entries[j].id, entries, &mut cells);
+        try_key(
+            frame,
+            &tables,
+            key,
+            size,
+            entries[j].id,
+            entries,
+            &mut cells,
+        );
     }
     cells
 }

@@ -75,8 +75,8 @@ returns c = λ x spi i.
     let none = c.no_policies.ensures in
     let given : c.if-rekey.result ≡ cond (eqb a.protocol 6) n.greatest 0 =
     elim c.if-rekey.branch [
-      then-rekey w ↦ w.result-is ∙ sym (ap (λ (b : Bool). cond b n.greatest 0) (eq-eqb a.protocol 6 w.if-rekey.true))
-    | else-rekey w ↦ w.result-is ∙ sym (ap (λ (b : Bool). cond b n.greatest 0) (ne_eqb a.protocol 6 w.if-rekey.false))
+      | then-rekey w ↦ w.result-is ∙ sym (ap (λ (b : Bool). cond b n.greatest 0) (eq-eqb a.protocol 6 w.if-rekey.true))
+      | else-rekey w ↦ w.result-is ∙ sym (ap (λ (b : Bool). cond b n.greatest 0) (ne_eqb a.protocol 6 w.if-rekey.false))
     ] in
     (λ j.
     record {

@@ -58,9 +58,11 @@ loop-i-preserved c =
     let f = c.requires.held_value in
     let n = held-within h f in
     let m = long h f e in
-    let t : l.i < h.count = omega arith in
-    (e, filled_more h.keys l.ids l.block l.i l.invariant.1 (omega arith) (omega arith) _ (key-is h f e l.i _ t)
-    (key-sized h f e l.i _ t) _ c.put.ensures)
+    let t : l.i < h.count = omega arith in (
+      e,
+      filled_more h.keys l.ids l.block l.i l.invariant.1 (omega arith) (omega arith) _ (key-is h f e l.i _ t)
+          (key-sized h f e l.i _ t) _ c.put.ensures,
+    )
 
 pub returns : goal.returns
 returns c =

@@ -21,7 +21,7 @@ pub returns : goal.returns
 returns c =
     let a = c.args in
     elim c.else-is_fit.branch [
-      else-is_fit-via-then-is_fit+else-is_of_rekey w ↦
-        case-other a.self a.f (sym w.if-is_fit.true ∙ c.is_fit.ensures) (sym w.if-is_of_rekey.false ∙ w.is_of_rekey.ensures)
-    | else-is_fit-via-else-is_fit w ↦ case-unfit a.self a.f c.requires (sym w.if-is_fit.false ∙ c.is_fit.ensures)
+      | else-is_fit-via-then-is_fit+else-is_of_rekey w ↦
+          case-other a.self a.f (sym w.if-is_fit.true ∙ c.is_fit.ensures) (sym w.if-is_of_rekey.false ∙ w.is_of_rekey.ensures)
+      | else-is_fit-via-else-is_fit w ↦ case-unfit a.self a.f c.requires (sym w.if-is_fit.false ∙ c.is_fit.ensures)
     ]

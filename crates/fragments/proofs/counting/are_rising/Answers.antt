@@ -7,4 +7,4 @@ use Rattle.fragments.proofs.counting.are_rising.Goals as goal
 pub returns : goal.returns
 returns c =
     rising-from_answer piece_before c.args.pieces.now c.is_sorted_by.result
-        (c.is_sorted_by.ensures.cases piece_before (answers_always _ _ _ (λ f a r g h. search rules)))
+    (c.is_sorted_by.ensures.cases piece_before (answers_always _ _ _ (λ f a r g h. search rules)))

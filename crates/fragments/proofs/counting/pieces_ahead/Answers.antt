@@ -11,6 +11,6 @@ returns c =
     let l = c.args.pieces.now in
     let test = λ (p : Piece). leb p.number c.args.number in
     ahead-count c.args.number l c.count.result
-        (count_from_yields_List _ _ c.count.ensures.ran
-            (YieldsList-from_take_while _ test (YieldsList-from_slice l cc) c.take_while.ensures.closure c.take_while.ensures.done
-                (λ x b q k. search (rules, tests))))
+    (count_from_yields_List _ _ c.count.ensures.ran
+    (YieldsList-from_take_while _ test (YieldsList-from_slice l cc) c.take_while.ensures.closure c.take_while.ensures.done
+    (λ x b q k. search (rules, tests))))

@@ -9,4 +9,4 @@ returns c =
     let l = c.args.pieces.now in
     let k = c.pieces_ahead-ahead.result in
     inserted c.args.a blank_piece l c.copy_from_slice.new.self _ 32 k c.pieces_ahead-ahead.ensures c.requires
-        c.copy_from_slice.ensures.after (c.copy_from_slice-2.ensures.after ∙ take_rest l k)
+    c.copy_from_slice.ensures.after (c.copy_from_slice-2.ensures.after ∙ take_rest l k)

@@ -16,4 +16,3 @@ returns-in-Nothing-g c need l m p q =
 pub returns-in-Conflict-g : goal.returns-in-Conflict-g
 returns-in-Conflict-g c need l m p q =
     let a = c.args in conflict-right l m need a.a a.b p q c.in-Conflict-g.is
-

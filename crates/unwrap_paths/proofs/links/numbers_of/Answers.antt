@@ -12,8 +12,7 @@ pub loop-i-preserved : goal.loop-i-preserved
 loop-i-preserved c =
     let l = c.loop-i in
     let a = c.args in
-    let m = c.loop-i-test.true in
-    (
+    let m = c.loop-i-test.true in (
       simp length-set l.invariant.0,
       simp length-set l.invariant.1,
       simp length-set l.invariant.2,

@@ -30,9 +30,10 @@ try_key-requires-then-not-is_carried-clause-tables_value c =
     let p = c.requires.lends_held in
     let n = ids-length (keys_of p.0) a.ids.now a.block.now p.1.lends in
     let h = c.loop-i-test.true in
-    let g : c.loop-i.i < length (keys_of p.0) = omega arith in
-    (c.inverse_tables-tables.ensures,
-    (c.key_at-key.ensures (keys_of p.0) a.ids.now p.1.lends g (held-sized p.0 p.1.formed c.loop-i.i g)).size)
+    let g : c.loop-i.i < length (keys_of p.0) = omega arith in (
+      c.inverse_tables-tables.ensures,
+      (c.key_at-key.ensures (keys_of p.0) a.ids.now p.1.lends g (held-sized p.0 p.1.formed c.loop-i.i g)).size,
+    )
 
 pub loop-i-preserved : goal.loop-i-preserved
 loop-i-preserved c =
@@ -40,7 +41,7 @@ loop-i-preserved c =
     let l = c.loop-i in
     let K : List Cell → Type 0 = Keeps a.frame.now a.ids.now a.block.now a.entries.now a.lent (l.i + 1) in
     elim c.if-not-is_carried.branch [
-      then-not-is_carried w ↦
+      | then-not-is_carried w ↦
           subst K (sym w.cells-is)
           (keeps-root a.frame.now a.ids.now a.block.now a.entries.now a.lent l.i c.loop-i-test.true l.cells l.invariant
           (λ t x. sym (c.is_carried.ensures a.frame.now t x) ∙ w.if-not-is_carried.true)
@@ -67,10 +68,11 @@ try_key-requires-in-Some-clause-tables_value c =
     let r = c.requires.lists in
     let p = c.requires.lends_held in
     let most = places-most a.frame.now a.entries.now r.0 r.1 in
-    let at = pending-first l.cells (length a.entries.now) c.in-Some.j (omega arith) c.in-Some.ensures in
-    (c.inverse_tables-tables.ensures,
-    keeps-count a.frame.now a.ids.now a.block.now a.entries.now a.lent (length a.ids.now) l.cells l.invariant l.array_long
-    c.in-Some.j at _ c.requires.key r.0 p.0 p.1 (λ i. (c.type_inv.block i).fits) c.requires.count_value r.1)
+    let at = pending-first l.cells (length a.entries.now) c.in-Some.j (omega arith) c.in-Some.ensures in (
+      c.inverse_tables-tables.ensures,
+      keeps-count a.frame.now a.ids.now a.block.now a.entries.now a.lent (length a.ids.now) l.cells l.invariant l.array_long
+          c.in-Some.j at _ c.requires.key r.0 p.0 p.1 (λ i. (c.type_inv.block i).fits) c.requires.count_value r.1,
+    )
 
 pub loop-j-smaller : goal.loop-j-smaller
 loop-j-smaller c =
