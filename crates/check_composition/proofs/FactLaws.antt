@@ -24,13 +24,36 @@ use Rattle.rules_refusals.specs.Fitness.{is_esp, is_rekey}
 use Rattle.rules_refusals.proofs.OneOf.{or-joined}
 use Rattle.check_suites.specs.inner.Adding.{once}
 use Rattle.check_composition.specs.inner.Facts.{given_by, of_sa, of_policy, sa_with, PolicyFactsAtMost, PolicyBodyHolds, FactsOfPolicy}
-use Rattle.check_composition.specs.inner.Facts.{merge_policy_facts, policy_facts_of}
+use Rattle.check_composition.specs.inner.Facts.{no_policies, merge_policy_facts, policy_facts_of}
 use Rattle.check_composition.specs.inner.Numbers.{greatest}
 use Rattle.check_composition.specs.declared.PolicyFacts.{PolicyFacts}
 use Rattle.check_composition.proofs.NumberLaws.{greater-none, none-greater, greater-joined, greatest-join}
 use Rattle.check_composition.proofs.WalkLaws.{PolicyAt, no-policy}
 
 -- ---- facts add up
+from-none : (f : PolicyFacts) → merge_policy_facts no_policies f ≡ f
+from-none f =
+    let s : 0 + f.sas ≡ f.sas = omega arith in
+    let e : 0 + f.esps ≡ f.esps = omega arith in
+    let r : 0 + f.rekeys ≡ f.rekeys = omega arith in
+    let w : 0 + f.wides ≡ f.wides = omega arith in
+    λ i. record {
+      sas = s i;
+      esps = e i;
+      rekeys = r i;
+      wides = w i;
+      ah = f.ah;
+      two_lengths = f.two_lengths;
+      two_message_ids = f.two_message_ids;
+      two_delays = f.two_delays;
+      two_lifetimes = f.two_lifetimes;
+      elsewhere = f.elsewhere;
+      long = f.long;
+      unfit = f.unfit;
+      delay = none-greater f.delay i;
+      initial = none-greater f.initial i;
+    }
+
 none_left : (a : Bool) (f : PolicyFacts) → merge_policy_facts f (policy_facts_of a []) ≡ f
 unfolding any count flat_map greatest
 none_left a f =
