@@ -10,8 +10,8 @@ BEGIN {
   n = split("true false if else while return match let mut as u8 u32 u64 usize bool MAX const pub fn use ghost crate self Self for in if Option Some None Result Ok Err", w, " ")
   for (i = 1; i <= n; i++) built_in["rt", w[i]] = 1
   apart["antt"] = "[ \n(){};,]"; apart["rt"] = "[^A-Za-z0-9_.]"
-  # projections and methods that no declaration of the repository has: of a reference, of a pair, of an Option
-  n = split("now old new 0 1 unwrap", w, " ")
+  # projections that no declaration of the repository has: of a reference, and of a pair
+  n = split("now old new 0 1", w, " ")
   for (i = 1; i <= n; i++) field[w[i]] = variant[w[i]] = 1
 }
 
