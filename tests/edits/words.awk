@@ -13,6 +13,9 @@ BEGIN {
   # projections that no declaration of the repository has: of a reference, and of a pair
   n = split("now old new 0 1", w, " ")
   for (i = 1; i <= n; i++) field[w[i]] = variant[w[i]] = 1
+  # methods of the library that no declaration of the repository has
+  n = split("iter min zip", w, " ")
+  for (i = 1; i <= n; i++) field[w[i]] = 1
 }
 
 function bad(message) { print "edits: " edit ": " message; failed = 1 }
