@@ -2,6 +2,7 @@ pub mod Levelling
 pub mod Best
 pub mod Steps
 pub mod Turns
+pub mod Marking
 pub mod Lowering
 pub mod WayBack
 pub mod Nearing

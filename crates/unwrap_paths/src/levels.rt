@@ -1,9 +1,9 @@
 // Levels, breadth first: how many entries the shortest chains pass that end with an entry. Entries are given by their Key IDs, their KWK
 // IDs and marks. Each key is tried once on the other entries, the keys of the lowest level first.
-ghost use Rattle.std.specs.Prelude.{◌≡◌, ℕ, ◌≤◌, ◌<◌, length};
+ghost use Rattle.std.specs.Prelude.{◌≡◌, ℕ, ◌≤◌, ◌<◌, length, map};
 ghost use Rattle.octets.specs.Numbers.{oct};
 ghost use Rattle.state_keys.specs.Limits.{limits};
-ghost use Rattle.unwrap_paths.specs.inner.Code.{opens, mark_at, first_level, FindsLeast, next_level, HasLevels};
+ghost use Rattle.unwrap_paths.specs.inner.Code.{opens, mark_of_octet, mark_at, first_level, FindsLeast, next_level, HasLevels};
 
 use state_keys::limits::WRAP_KEYS;
 
@@ -35,6 +35,33 @@ impl Mark {
             Mark::NotOpened => 0,
         }
     }
+}
+
+// Reads the mark that an octet stands for: 0 did not open, 2 opened under a key that chains start with, any other octet opened.
+impl From<u8> for Mark {
+    ghost from_gives = { λ octet mark. mark ≡ mark_of_octet octet };
+
+    fn from(octet: u8) -> Mark {
+        match octet {
+            0 => Mark::NotOpened,
+            2 => Mark::OpenedFirst,
+            _ => Mark::Opened,
+        }
+    }
+}
+
+// Reads the marks of the first n entries off what stands for them.
+fn marks_of<M: Copy + Into<Mark>>(given: &[M], n: usize) -> [Mark; WRAP_KEYS]
+    requires n_le_wrap_keys { n ≤ limits.wrap_keys }
+    requires n_in_bounds { n ≤ length given.now }
+    ensures { (h : M → Mark) → ((x : M) (y : Mark) → M.converts x y → y ≡ h x) → (i : ℕ) → i < n →
+        mark_at result i ≡ mark_at (map h given.now) i }
+{
+    let mut out = [Mark::NotOpened; WRAP_KEYS];
+    for i in 0..n {
+        out[i] = given[i].into();
+    }
+    out
 }
 
 // The levels of the entries under a key that chains start with.
@@ -99,8 +126,8 @@ fn spread(
     out
 }
 
-// Computes the level of each entry that a chain reaches, and 0 for the others.
-pub fn levels(ids: &[u32], kwks: &[u32], marks: &[Mark], n: usize) -> [usize; WRAP_KEYS]
+// Computes the level of each entry that a chain reaches, and 0 for the others, by the marks of the entries.
+fn levels_by_marks(ids: &[u32], kwks: &[u32], marks: &[Mark], n: usize) -> [usize; WRAP_KEYS]
     requires { (n ≤ limits.wrap_keys) × (n ≤ length ids.now) × (n ≤ length kwks.now) × (n ≤ length marks.now) }
     ensures { HasLevels n ids.now kwks.now marks.now result }
 {
@@ -111,4 +138,19 @@ pub fn levels(ids: &[u32], kwks: &[u32], marks: &[Mark], n: usize) -> [usize; WR
         levels = spread(ids, kwks, marks, levels, n, j);
     }
     levels
+}
+
+// Computes the level of each entry that a chain reaches, and 0 for the others. A mark is given as a `Mark`, as an octet, or as what else
+// becomes a mark: `h` says which one it becomes.
+pub fn levels<M: Copy + Into<Mark>>(
+    ids: &[u32],
+    kwks: &[u32],
+    marks: &[M],
+    n: usize,
+) -> [usize; WRAP_KEYS]
+    requires { (n ≤ limits.wrap_keys) × (n ≤ length ids.now) × (n ≤ length kwks.now) × (n ≤ length marks.now) }
+    ensures { (h : M → Mark) → ((x : M) (y : Mark) → M.converts x y → y ≡ h x) →
+        HasLevels n ids.now kwks.now (map h marks.now) result }
+{
+    levels_by_marks(ids, kwks, &marks_of(marks, n), n)
 }

@@ -7,6 +7,10 @@ use Rattle.unwrap_paths.specs.declared.levels.Mark.TheVariants.{NotOpened, Opene
 use Rattle.unwrap_paths.specs.inner.Levels.{Levelled, Distance, ReadOff}
 
 -- ---- marks
+-- the mark that an octet stands for: 0 and 2 have marks of their own, and any other octet is that of an entry which opened
+abbrev pub mark_of_octet : ℕ → Mark
+mark_of_octet octet = cond (eqb octet 0) NotOpened (cond (eqb octet 2) OpenedFirst Opened)
+
 abbrev pub mark_at : List Mark → ℕ → Mark
 mark_at marks i = get_or marks i NotOpened
 

@@ -2,7 +2,7 @@ use Rattle.std.proofs.Common.{◌≡◌, length}
 use Rattle.state_keys.specs.Limits.{limits}
 use Rattle.unwrap_paths.specs.inner.Code.{is_tried}
 use Rattle.unwrap_paths.proofs.Turns.{untried, Known, Bound}
-use Rattle.unwrap_paths.proofs.levels.levels.Given as goal
+use Rattle.unwrap_paths.proofs.levels.levels_by_marks.Given as goal
 
 abbrev pub invariant-loop-j : goal.invariant-loop-j
 invariant-loop-j l =
