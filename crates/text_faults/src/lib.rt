@@ -9,6 +9,7 @@ use ikev2_numbers::{
     LENGTH_AT, MINOR_VERSIONS, MOST_OCTETS, NO_PAYLOAD, NO_PROTOCOL, PAYLOAD_HEADER, POLICY_HEAD,
     STRUCTURE_LENGTH_AT, TRANSFORM_HEAD, VERSION_AT,
 };
+use std::convert::AsSlice;
 use std::fmt;
 use std::fmt::Write;
 use wire_attributes::tables::{Meaning, Place};
@@ -16,8 +17,20 @@ use wire_attributes::tables::{Meaning, Place};
 pub mod places;
 
 // Puts the start of the line: the `offset` of the break, and the structure `what`.
-fn breaks(w: &mut impl Write, offset: usize, what: &str) -> fmt::Result {
-    write!(w, "  1: breaks at offset {offset}, {what}")
+fn breaks(w: &mut impl Write, offset: usize, what: impl AsSlice<u8> + Drop) -> fmt::Result {
+    write!(w, "  1: breaks at offset {offset}, ")?;
+    put_octets(w, what.as_slice())
+}
+
+// Puts octets that are text as they stand, and others one by one as the characters with their numbers, since a writer takes text alone.
+fn put_octets(w: &mut impl Write, octets: &[u8]) -> fmt::Result {
+    if let Ok(text) = str::from_utf8(octets) {
+        return w.write_str(text);
+    }
+    for octet in octets {
+        w.write_char(char::from(*octet))?;
+    }
+    Ok(())
 }
 
 // Says that `count` octets are missing.
@@ -133,7 +146,12 @@ fn of_spi_size(w: &mut impl Write, protocol: usize, size: usize) -> fmt::Result 
 }
 
 // Says why the policy or key bag `s` breaks at `offset`: by its first octet, its SPI size or its length field. `what` names the structure.
-pub fn of_head(w: &mut impl Write, what: &str, s: &[u8], offset: usize) -> fmt::Result {
+pub fn of_head(
+    w: &mut impl Write,
+    what: impl AsSlice<u8> + Drop,
+    s: &[u8],
+    offset: usize,
+) -> fmt::Result {
     breaks(w, offset, what)?;
     let first = octet(s, 0);
     if first == NO_PROTOCOL || s.len() < POLICY_HEAD {
@@ -154,9 +172,11 @@ fn of_protocol(w: &mut impl Write, first: usize, s: &[u8]) -> fmt::Result {
 }
 
 // Says that `what` is missing at a policy's end. It counts for the policy, which starts at `offset`.
-pub fn of_missing(w: &mut impl Write, what: &str, offset: usize) -> fmt::Result {
+pub fn of_missing(w: &mut impl Write, what: impl AsSlice<u8> + Drop, offset: usize) -> fmt::Result {
     breaks(w, offset, "policy: ")?;
-    writeln!(w, "no {what}")
+    w.write_str("no ")?;
+    put_octets(w, what.as_slice())?;
+    writeln!(w)
 }
 
 // Says why the selector `s` breaks at `offset`.
