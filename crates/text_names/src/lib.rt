@@ -5,16 +5,23 @@
 pub mod page;
 pub mod tables;
 
-use std::fmt;
+use std::{fmt, str};
 
 // Octets that are shown in hexadecimal, two digits each.
 #[derive(Clone, Copy)]
 pub struct Hex<'a>(pub &'a [u8]);
 
+// How many octets are shown at a time.
+const PIECE: usize = 64;
+
 impl<'a> fmt::Display for Hex<'a> {
+    // Hands the digits over piece by piece, because a call of the formatter for each octet takes several times as long.
     fn fmt<W: fmt::Write>(&self, f: &mut fmt::Formatter<W>) -> fmt::Result {
-        for octet in self.0 {
-            write!(f, "{octet:02x}")?;
+        let mut digits = [0u8; 2 * PIECE];
+        for piece in self.0.chunks(PIECE) {
+            let n = text_lines::put_digits(&mut digits, 0, piece);
+            let text = digits.get(..n).unwrap_or(&[]);
+            f.write_str(str::from_utf8(text).map_err(|_| fmt::Error)?)?;
         }
         Ok(())
     }

@@ -36,20 +36,15 @@ impl<const ROOM: usize> Text<ROOM> {
         }
     }
 
-    fn put(&mut self, octet: u8) -> fmt::Result {
-        if self.len == ROOM {
-            return Err(fmt::Error);
-        }
-        self.room[self.len] = octet;
-        self.len += 1;
-        Ok(())
-    }
-
     // Puts `octets` as they stand. Is an error where they find no room.
     pub(crate) fn put_all(&mut self, octets: &[u8]) -> fmt::Result {
-        for octet in octets {
-            self.put(*octet)?;
-        }
+        let n = octets.len();
+        let room = &mut self.room[..];
+        let Some(free) = room[self.len..].get_mut(..n) else {
+            return Err(fmt::Error);
+        };
+        free.copy_from_slice(octets);
+        self.len += n;
         Ok(())
     }
 }
