@@ -14,7 +14,7 @@ BEGIN {
   n = split("now old new 0 1", w, " ")
   for (i = 1; i <= n; i++) field[w[i]] = variant[w[i]] = 1
   # methods of the library that no declaration of the repository has
-  n = split("iter min zip", w, " ")
+  n = split("and_then iter min unwrap unwrap_or zip", w, " ")
   for (i = 1; i <= n; i++) field[w[i]] = 1
 }
 
